@@ -25,9 +25,16 @@ type_of (M.OfType n p x) = n ∷ []
 type_of (M.OfGroup g base q xs) = []
 type_of (M.OfAlternative es base ps) = []
 
-abbrev pub types_of : List (M.Question TypeId GroupId) → List TypeId
-types_of [] = []
-types_of (q ∷ qs) = type_of q ++ types_of qs
+-- the key type of the entry whose value is asked, if one's is
+abbrev pub key_of : M.Pending TypeId GroupId → List TypeId
+key_of (M.InValue e es s) = e.key_type ∷ []
+key_of _ = []
+
+-- The types that are asked, by the questions and how each of them waits: the key type of an entry stands right before the type of
+-- its value, which tells the entries of a map apart.
+abbrev pub types_of : List (M.Question TypeId GroupId) → List (M.Pending TypeId GroupId) → List TypeId
+types_of (q ∷ qs) (o ∷ os) = (type_of q ++ key_of o) ++ types_of qs os
+types_of _ _ = []
 
 -- the place of the byte string whose content is asked about, if one's is
 abbrev pub string_of : M.Pending TypeId GroupId → List ℕ
@@ -88,7 +95,7 @@ pub record IsReason (l : Language TypeId GroupId) (first : M.Question TypeId Gro
   pub next : M.Move TypeId GroupId
   pub opened : AreOpenWith l first (last ∷ reverse before) (reverse waits ++ M.InRef ∷ []) next
   pub fails : (w : ℕ) × Replies l last (Fails r.place) w
-  pub types : r.types.items ≡ types_of before ++ type_of last
+  pub types : r.types.items ≡ types_of before waits ++ type_of last
   pub strings : r.strings.items ≡ strings_of waits
   pub cause : IsCause l last r.place r.cause
 

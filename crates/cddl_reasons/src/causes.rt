@@ -24,7 +24,7 @@ pub enum Cause {
 /// A question that has failed.
 #[derive(Drop)]
 pub struct Reason {
-    /// The types that are open there, the root type first.
+    /// The types that are open there, the root type first. Right before the type of an entry's value stands the type of its key.
     pub types: Vec<TypeId>,
     /// The places of the byte strings in whose content that is, the outermost first. Each counts in the one before it.
     pub strings: Vec<usize>,

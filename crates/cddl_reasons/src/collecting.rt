@@ -35,11 +35,12 @@ fn pass_in<'i>(
 ) -> Result<Found, AllocError>
     ensures { IfOk result (λ found. All (IsReason (language_of table.now) (root_question table.now item.now)) found.list.items) }
 {
-    let mut shelf = Shelf::new(aim.alloc, cells);
+    let whole = item.item();
+    let mut shelf = Shelf::for_item(aim.alloc, cells, whole);
     let root = Question::OfType {
         node: table.root(),
         place: 0,
-        subject: Subject::Item(item.item()),
+        subject: Subject::Item(whole),
     };
     let mut run = begin(aim.alloc, table, root, place)?;
     let mut found = Found::new(aim.alloc);

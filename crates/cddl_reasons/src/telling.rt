@@ -7,7 +7,7 @@ ghost use Rattle.cddl_meaning.specs.Forms as F;
 ghost use Rattle.cddl_meaning.specs.Judges as J;
 ghost use Rattle.cddl_meaning.specs.Moves as M;
 ghost use Rattle.cddl_reasons.specs.Opened.{StandsAt, asked_in, waits_in};
-ghost use Rattle.cddl_reasons.specs.Told.{IsCause, IsCount, IsEntryOf, IsReason, string_of, strings_of, type_of, types_of};
+ghost use Rattle.cddl_reasons.specs.Told.{IsCause, IsCount, IsEntryOf, IsReason, key_of, string_of, strings_of, type_of, types_of};
 ghost use Rattle.match_moves.specs.Views.{pending_view, question_view, reply_view, values};
 ghost use Rattle.table_nodes.specs.Language.{language_of};
 ghost use Rattle.table_nodes.specs.Nodes.{entries_view, entry_view};
@@ -37,13 +37,24 @@ fn push_type(types: &mut Vec<TypeId>, question: &Question<'_, '_>) -> Result<(),
     }
 }
 
-// The types that are asked, the first one first.
+// The key type of the entry whose value is asked, if one's is, is put behind others.
+fn push_key(types: &mut Vec<TypeId>, pending: &Pending<'_, '_>) -> Result<(), AllocError>
+    ensures { IfOk result (λ _. types.new.items ≡ types.old.items ++ key_of (pending_view pending.now)) }
+{
+    if let Pending::Map(PendingMap::Value { entry, .. }) = pending {
+        types.push(entry.key_type)?;
+    }
+    Ok(())
+}
+
+// The types that are asked, the first one first, and before that of an entry's value the entry's key.
 fn types_in(alloc: Global, below: &[Open<'_, '_>]) -> Result<Vec<TypeId>, AllocError>
-    ensures { IfOk result (λ types. types.items ≡ types_of (asked_in below.now)) }
+    ensures { IfOk result (λ types. types.items ≡ types_of (asked_in below.now) (waits_in below.now)) }
 {
     let mut types = Vec::new(alloc);
     for waiting in below {
         push_type(&mut types, &waiting.question)?;
+        push_key(&mut types, &waiting.pending)?;
     }
     Ok(types)
 }

@@ -1,6 +1,6 @@
 -- What nodes end with.
-use Rattle.std.proofs.Common.{◌≡◌, ℕ, suc, ◌-◌, List, [], ◌∷◌, ◌++◌, length, map, Some, None, slice_get, refl, sym, ap, subst, ◌∙◌, append_assoc, arith}
-use Rattle.std.proofs.lemmas.List.{map-append}
+use Rattle.std.proofs.Common.{◌≡◌, ℕ, suc, ◌-◌, List, [], ◌∷◌, ◌++◌, length, map, reverse, Some, None, slice_get, refl, sym, ap, subst, ◌∙◌, append_assoc, arith}
+use Rattle.std.proofs.lemmas.List.{map-append, reverse-append}
 use Rattle.lists.proofs.Lemmas.{same_some, some_none, there}
 use Rattle.cddl_token.specs.declared.Token.{Token}
 use Rattle.cddl_token.specs.declared.Kind.TheVariants.{Slash}
@@ -9,7 +9,7 @@ use Rattle.tree_nodes.specs.declared.tree.Leaf.{Leaf}
 use Rattle.tree_nodes.specs.declared.tree.Further.{Further}
 use Rattle.tree_nodes.specs.declared.tree.Types.{Types}
 use Rattle.tree_nodes.specs.declared.tree.GrpEnt.TheViews.{out-Types}
-use Rattle.tree_nodes.specs.View.{view_further, view_type1, view_types, with_types}
+use Rattle.tree_nodes.specs.View.{StartsAt, view_further, view_type1, view_types, with_types}
 use Rattle.tree_nodes.proofs.Lemmas.{view-Further, view_out-Types}
 use Rattle.cddl_sources.specs.Spans.{EndsAt}
 
@@ -60,3 +60,15 @@ module _ (read : Leaf → Token) where
 pub none_last : {A : Type 0} (xs : List A) → slice_get xs (length xs - 1) ≡ None → xs ≡ []
 none_last [] e = refl
 none_last (y ∷ ys) e = let w = there (y ∷ ys) (length (y ∷ ys) - 1) (omega arith) in absurd (some_none (sym w.1 ∙ e))
+
+-- tokens begin at one offset, and end at one
+
+pub one_start : (ts : List S.Lexeme) (a b : ℕ) → StartsAt ts a → StartsAt ts b → a ≡ b
+one_start [] a b h g = absurd h
+one_start (t ∷ ts) a b h g = h ∙ sym g
+
+one_last : (xs ys : List S.Lexeme) (x y : S.Lexeme) → xs ++ x ∷ [] ≡ ys ++ y ∷ [] → x ≡ y
+one_last xs ys x y e = same_some (ap (λ (zs : List S.Lexeme). slice_get zs 0) (sym (reverse-append xs (x ∷ [])) ∙ ap reverse e ∙ reverse-append ys (y ∷ [])))
+
+pub one_end : (ts : List S.Lexeme) (a b : ℕ) → EndsAt ts a → EndsAt ts b → a ≡ b
+one_end ts a b h g = h.ends ∙ ap (λ (l : S.Lexeme). (l.1).end) (one_last h.front g.front h.last g.last (sym h.split ∙ g.split)) ∙ sym g.ends

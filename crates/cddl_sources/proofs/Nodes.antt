@@ -31,7 +31,7 @@ use Rattle.tree_nodes.specs.declared.tree.Type2.TheVariants as Type2V
 use Rattle.tree_nodes.specs.declared.tree.GrpEnt.TheViews.{out-Types, out-GenericArg, out-Group, out-GrpChoice}
 use Rattle.tree_nodes.specs.View.{view_type1, view_type2, view_ref, view_key, view_grpent, view_rule, view_value, view_further, view_entry, view_choice, view_types, view_arg, view_group, with_types, with_arguments, with_entries, with_choices}
 use Rattle.tree_nodes.proofs.Lemmas.{view-Name, view-Applied, view-One, view-Operation, view-Literal, view-Typename, view-Parens, view-MapOf, view-ArrayOf, view-Unwrapped, view-ChoiceOf, view-ChoiceOfName, view-Tagged, view-TaggedBy, view-SimpleBy, view-Hash, view-Typed, view-Keyed, view-Grouped, view-TypeKey, view-Bareword, view-ValueKey, view-Entry, view-Further, view_out-GrpChoice, view_out-Types, view_out-GenericArg, view_out-Group}
-use Rattle.cddl_sources.specs.Pieces.{Piece, a_type, a_word, operand, in_types, in_members, in_type1, in_type2, in_ref, in_arguments, in_group, in_entries, in_entry, in_key, in_rule}
+use Rattle.cddl_sources.specs.Pieces.{Piece, a_type, a_value, a_word, key_piece, operand, in_types, in_members, in_type1, in_type2, in_ref, in_arguments, in_group, in_entries, in_entry, in_key, in_rule}
 use Rattle.cddl_sources.specs.Walk.{further_pieces, entry_pieces, choice_pieces}
 
 whole : (t : S.Types) → in_types t ≡ a_type t ∷ in_members t
@@ -165,10 +165,11 @@ module _ (read : Leaf → Token) where
   pub typed_pieces : (x : GrpEnt) (o : Option Leaf) (t : Types) → x ≡ GrpEntV.Typed o t → in_entry (view_grpent read x) ≡ in_types (view_types read t)
   typed_pieces x o t is = seen_entry x _ _ is (view-Typed read o t)
 
-  pub keyed_pieces : (x : GrpEnt) (o : Option Leaf) (k : Box MemberKey Global) (t : Types) (y : MemberKey) → x ≡ GrpEntV.Keyed o k t → y ≡ k.value → in_entry (view_grpent read x) ≡ in_key (view_key read y) ++ in_types (view_types read t)
-  keyed_pieces x o k t y is e =
+  pub keyed_pieces : (x : GrpEnt) (o : Option Leaf) (k : Box MemberKey Global) (t : Types) (y z : MemberKey) → x ≡ GrpEntV.Keyed o k t → y ≡ k.value → z ≡ k.value → in_entry (view_grpent read x) ≡ in_key (view_key read y) ++ (a_value (key_piece (view_key read z)) (view_types read t) ∷ in_types (view_types read t))
+  keyed_pieces x o k t y z is e f =
       seen_entry x _ _ is (view-Keyed read o k t)
-      ∙ ap (λ (z : MemberKey). in_key (view_key read z) ++ in_types (view_types read t)) (sym e)
+      ∙ ap (λ (w : MemberKey). in_key (view_key read w) ++ (a_value (key_piece (view_key read k.value)) (view_types read t) ∷ in_types (view_types read t))) (sym e)
+      ∙ ap (λ (w : MemberKey). in_key (view_key read y) ++ (a_value (key_piece (view_key read w)) (view_types read t) ∷ in_types (view_types read t))) (sym f)
 
   pub grouped_pieces : (x : GrpEnt) (o : Option Leaf) (p : Leaf) (g : Group) (c : Leaf) → x ≡ GrpEntV.Grouped o p g c → in_entry (view_grpent read x) ≡ in_group (view_group read g)
   grouped_pieces x o p g c is = seen_entry x _ _ is (view-Grouped read o p g c)
@@ -184,6 +185,17 @@ module _ (read : Leaf → Token) where
 
   pub value_key_pieces : (x : MemberKey) (v : Value) (c : Leaf) → x ≡ MemberKeyV.ValueKey v c → in_key (view_key read x) ≡ operand (S.literal (view_value read v)) ∷ []
   value_key_pieces x v c is = seen_key x _ _ is (view-ValueKey read v c)
+
+  -- the key of an entry
+
+  pub type_key : (x : MemberKey) (r : Type1) (u : Option Leaf) (a : Leaf) → x ≡ MemberKeyV.TypeKey r u a → a_type (S.only (view_type1 read r)) ≡ key_piece (view_key read x)
+  type_key x r u a is = sym (ap (λ (z : MemberKey). key_piece (view_key read z)) is ∙ ap key_piece (view-TypeKey read r u a))
+
+  pub bareword_key : (x : MemberKey) (n c : Leaf) → x ≡ MemberKeyV.Bareword n c → a_word (read n) ≡ key_piece (view_key read x)
+  bareword_key x n c is = sym (ap (λ (z : MemberKey). key_piece (view_key read z)) is ∙ ap key_piece (view-Bareword read n c))
+
+  pub value_key : (x : MemberKey) (v : Value) (c : Leaf) → x ≡ MemberKeyV.ValueKey v c → operand (S.literal (view_value read v)) ≡ key_piece (view_key read x)
+  value_key x v c is = sym (ap (λ (z : MemberKey). key_piece (view_key read z)) is ∙ ap key_piece (view-ValueKey read v c))
 
   pub type_rule_pieces : (x : Rule) (n : RuleName) (a : AssignT) (t : Types) → x ≡ RuleV.TypeRule n a t → in_rule (view_rule read x) ≡ in_types (view_types read t)
   type_rule_pieces x n a t is = ap (λ (z : Rule). in_rule (view_rule read z)) is

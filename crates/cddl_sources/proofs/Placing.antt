@@ -7,7 +7,7 @@ use Rattle.cddl_token.specs.declared.Token.{Token}
 use Rattle.tree_nodes.specs.Syntax.Syntax as S
 use Rattle.tree_nodes.specs.declared.tree.Leaf.{Leaf}
 use Rattle.check_terms.specs.Table.{Table}
-use Rattle.cddl_sources.specs.Origins.{AreRead, ArePieces, IsOriginOf, Stands}
+use Rattle.cddl_sources.specs.Origins.{AreRead, ArePieces, IsPieceAt, Stands}
 use Rattle.cddl_sources.specs.Pieces.{Piece, in_rule, placed, rule_by_rule}
 use Rattle.cddl_sources.specs.Walk.{view_found}
 use Rattle.cddl_sources.specs.declared.node.Found.{Found}
@@ -65,12 +65,11 @@ pieces_stand t read rs fs xs e are = record { each = each; all = all }
           piece = (view_found read f).1;
           there = subst (λ (n : ℕ). slice_get rs n ≡ Some w.2) same w.3;
           contained = w.4;
-          origin = r.2.origin;
-          span = r.2.span;
+          is = r.2.is;
         }
 
-    all : (i : ℕ) (r : S.Rule) (p : Piece) → slice_get rs i ≡ Some r → Contains (in_rule r) p → (a : PieceAt) × Contains xs a × (a.rule ≡ i) × IsOriginOf t p a.origin
+    all : (i : ℕ) (r : S.Rule) (p : Piece) → slice_get rs i ≡ Some r → Contains (in_rule r) p → (a : PieceAt) × Contains xs a × (a.rule ≡ i) × IsPieceAt t p a
     all i r p g h =
         let w = from_map (view_found read) fs (i, p) (subst (λ (ys : List (ℕ × Piece)). Contains ys (i, p)) (sym e) (in_rules rs 0 i i r p (omega arith) g h)) in
         let a = are.all w.0 w.1 in
-        (a.0, a.1, a.2.rule ∙ ap (λ (y : ℕ × Piece). y.0) w.2, subst (λ (q : Piece). IsOriginOf t q a.0.origin) (ap (λ (y : ℕ × Piece). y.1) w.2) a.2.origin)
+        (a.0, a.1, a.2.rule ∙ ap (λ (y : ℕ × Piece). y.0) w.2, subst (λ (q : Piece). IsPieceAt t q a.0) (ap (λ (y : ℕ × Piece). y.1) w.2) a.2.is)

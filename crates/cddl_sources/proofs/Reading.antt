@@ -20,20 +20,29 @@ use Rattle.check_terms.specs.declared.row.Row.{Row}
 use Rattle.check_terms.specs.Table.{Grows, Holds, part, Table}
 use Rattle.check_terms.specs.Trees.{IsEntry, IsTerm, term_tree}
 use Rattle.table_making.specs.declared.origin.TypeOrigin.{TypeOrigin}
-use Rattle.cddl_sources.specs.Origins.{AreRead, IsOriginOf, IsRead, of_type, of_word}
-use Rattle.cddl_sources.specs.Pieces.{Piece}
+use Rattle.cddl_sources.specs.Origins.{AreRead, IsKeyOf, IsOriginOf, IsRead, of_type, of_value, of_word}
+use Rattle.cddl_sources.specs.Pieces.{Piece, a_type, a_value, a_word}
 use Rattle.cddl_sources.specs.Sources.{AreRules, IsRuleAt}
 use Rattle.cddl_sources.specs.declared.node.Found.{Found}
 use Rattle.cddl_sources.specs.declared.piece.PieceAt.{PieceAt}
 use Rattle.cddl_sources.specs.declared.sources.RuleAt.{RuleAt}
 use Rattle.cddl_sources.proofs.Growing.{kept}
 
-origin_kept : (old new : Table) (p : Piece) (o : TypeOrigin) → Grows old new → IsOriginOf old p o → IsOriginOf new p o
+pub origin_kept : (old new : Table) (p : Piece) (o : TypeOrigin) → Grows old new → IsOriginOf old p o → IsOriginOf new p o
 origin_kept old new p o g (of_type h) = of_type (kept g h)
 origin_kept old new p o g (of_word {w = w} {k = k} e) = of_word (g.texts k _ e)
+origin_kept old new p o g (of_value h) = of_value (kept g h)
+
+key_kept : (old new : Table) (p : Piece) (o : Option TypeOrigin) → Grows old new → IsKeyOf old p o → IsKeyOf new p o
+key_kept old new (a_value k x) o g h = (h.0, h.1, origin_kept old new k h.0 g h.2)
+key_kept old new (a_type x) o g h = h
+key_kept old new (a_word w) o g h = h
 
 read_kept : (old new : Table) (read : Leaf → Token) (f : Found) (a : PieceAt) → Grows old new → IsRead old read f a → IsRead new read f a
-read_kept old new read f a g h = record { rule = h.rule; origin = origin_kept old new _ a.origin g h.origin; span = h.span }
+read_kept old new read f a g h = record {
+  rule = h.rule;
+  is = record { origin = origin_kept old new _ a.origin g h.is.origin; key = key_kept old new _ a.key g h.is.key; span = h.is.span };
+}
 
 pub none_read : (t : Table) (read : Leaf → Token) → AreRead t read [] []
 none_read t read = record { each = λ a c. absurd (none_in a c); all = λ f c. absurd (none_in f c) }

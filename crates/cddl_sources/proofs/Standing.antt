@@ -1,8 +1,8 @@
 -- What numbers say of places is so of the names for which the table's types stand.
-use Rattle.std.proofs.Common.{◌≡◌, ℕ, Bool, true, false, List, Option, Some, None, IfNone, IfSome, option_map, slice_get, refl, sym, ap, subst, ◌∙◌}
+use Rattle.std.proofs.Common.{◌≡◌, ℕ, arith, Bool, true, false, List, [], ◌∷◌, Option, Some, None, option_map, slice_get, refl, sym, ap, subst, ◌∙◌}
 use Rattle.std.specs.List.{Contains}
 use Rattle.std.proofs.lemmas.Option.{slice_get-map}
-use Rattle.lists.proofs.Lemmas.{contains_at, one_of, place_of, same_some}
+use Rattle.lists.proofs.Lemmas.{contains_at, one_of, place_of, same_some, some_none}
 use Rattle.tree_nodes.specs.Syntax.Syntax as S
 use Rattle.cddl_language.specs.Language.{TypeName, reference, type, word}
 use Rattle.cddl_language.specs.Reading.{name_in, rules_of, term_of, text_of}
@@ -16,26 +16,20 @@ use Rattle.table_making.specs.declared.origin.TypeOrigin.{TypeOrigin}
 use Rattle.table_making.specs.declared.origin.TypeOrigin.TheVariants as T
 use Rattle.table_nodes.specs.declared.nodes.TypeId.{TypeId}
 use Rattle.table_nodes.specs.declared.table.Table.{Table as Made}
-use Rattle.cddl_sources.specs.Origins.{IsOriginOf, of_type, of_word as of_token, Stands}
-use Rattle.cddl_sources.specs.Pieces.{Piece, in_rule, name_of_piece, tokens_of_piece}
-use Rattle.cddl_sources.specs.Places.{BeginsWithInstance, IsOfNoRule, IsPlace, IsShown, StandNowhere, a_piece, the_body}
+use Rattle.cddl_sources.specs.Origins.{IsKeyOf, IsOriginOf, IsPieceAt, of_type, of_value, of_word as of_token, Stands}
+use Rattle.cddl_sources.specs.Pieces.{Piece, a_type, a_value, a_word, in_rule, name_of_piece, tokens_of_piece}
+use Rattle.cddl_sources.specs.Places.{BeginsWithInstance, HasNoValue, IsOfNoRule, IsPlace, IsShown, IsTypeAt, IsValueAt, Leads, StandsAt, a_piece, arrives, passes, the_body, to_type, to_value}
 use Rattle.cddl_sources.specs.Sources.{AreSources, IsRuleAt}
-use Rattle.cddl_sources.specs.Spans.{IsNameSpan, IsSpan, body_tokens}
-use Rattle.cddl_sources.specs.States.{ArePassed, HasNoPlace, HasNoRule, HasNumber, IsFoundOr, IsStateAfter, IsTold, flattened, name_number, number_at, number_in, text_in}
+use Rattle.cddl_sources.specs.Spans.{IsNameSpan, IsSpan, IsWithin, Spot, body_tokens}
+use Rattle.cddl_sources.specs.States.{ArePassed, HasNoRule, HasNoValueIn, HasNumber, IsFoundAfter, IsInside, IsStateAfter, IsTold, IsTypeIn, IsValueIn, LeadsIn, arrives as by_none, flattened, name_number, number_at, number_in, passes as gone_by, spot_of, text_in, to_type as by_type, to_value as by_value}
 use Rattle.cddl_sources.specs.declared.piece.PieceAt.{PieceAt}
 use Rattle.cddl_sources.specs.declared.place.Place.{Place}
 use Rattle.cddl_sources.specs.declared.place.State.{State}
 use Rattle.cddl_sources.specs.declared.sources.RuleAt.{RuleAt}
 use Rattle.cddl_sources.specs.declared.sources.Sources.{Sources}
+use Rattle.cddl_sources.proofs.Ending.{one_end, one_start}
 use Rattle.cddl_sources.proofs.Growing.{kept}
-
-pub some_then : {A : Type 0} (o : Option A) (P Q : A → Type 0) → ((a : A) → P a → Q a) → IfSome o P → IfSome o Q
-some_then None P Q f h = tt
-some_then (Some a) P Q f h = f a h
-
-pub none_then : {A : Type 0} (o : Option A) (P Q : Type 0) → (P → Q) → IfNone o P → IfNone o Q
-none_then None P Q f h = f h
-none_then (Some a) P Q f h = tt
+use Rattle.cddl_sources.proofs.Stepping.{found_named}
 
 -- the name of a reference, by its row
 call_number : (t : Table) (n : ℕ) (q : Ref) → IsRef t n q → (k : ℕ) × (text_in (slice_get t.rows n) ≡ Some k) × (slice_get t.texts k ≡ Some (name_of q))
@@ -94,11 +88,11 @@ module _ (s : Sense) (table : Made) (x : Sources) (k : AreSources s table x) whe
       none n.0 at.0 n.1 (record { at = a.0; there = a.1; same = sym (k.made.distinct n.0 a.0.number (name_of i.0) n.2 named) })
 
   -- what stands in the text with the origin of a type is what the type is of
-  named_piece : (a : PieceAt) (id : TypeId) (o : TypeOrigin) → slice_get x.origins.items id.number ≡ Some o → a.origin ≡ o → (st : Stands k.made.more (rules_of s.tree) a) → IsNameOfType s k.terms k.nodes (name_of_piece st.piece) id
-  named_piece a id o e f st =
-      let there = ap (λ os. slice_get os id.number) (sym k.made.origins) ∙ e ∙ ap Some (sym f) in
-      let named = k.are_nodes.types_named id.number a.origin there in
-      record { origin = a.origin; there = there; named = by st.piece a.origin st.origin named.0 named.1 }
+  named_piece : (p : Piece) (o : TypeOrigin) (id : TypeId) → slice_get x.origins.items id.number ≡ Some o → IsOriginOf k.made.more p o → IsNameOfType s k.terms k.nodes (name_of_piece p) id
+  named_piece p o id e h =
+      let there = ap (λ os. slice_get os id.number) (sym k.made.origins) ∙ e in
+      let named = k.are_nodes.types_named id.number o there in
+      record { origin = o; there = there; named = by p o h named.0 named.1 }
     where
       row : (y : S.Types) (n : ℕ) → IsTerm k.made.more n (term_of y) → (z : TypeName) → IsTypeOrigin s k.terms z (T.Row n) → IsTypeOrigin s k.terms (type (term_of y)) (T.Row n)
       row y n h z (of_row {x = v} g c w) = subst (λ (u : Term). IsTypeOrigin s k.terms (type u) (T.Row n)) (k.made.one_term n v (term_of y) (kept k.made.grows g) h) (of_row g c w)
@@ -109,6 +103,7 @@ module _ (s : Sense) (table : Made) (x : Sources) (k : AreSources s table x) whe
       by : (p : Piece) (q : TypeOrigin) → IsOriginOf k.made.more p q → (z : TypeName) → IsTypeOrigin s k.terms z q → IsTypeOrigin s k.terms (name_of_piece p) q
       by p q (of_type {x = y} {n = n} h) z g = row y n h z g
       by p q (of_token {w = w} {k = n} h) z g = token (text_of w) n h z g
+      by p q (of_value {x = y} {n = n} h) z g = row y n h z g
 
   -- an origin that is an instance's is of a reference
   an_instance : (m : TypeId) (i : ℕ) → slice_get x.origins.items m.number ≡ Some (T.Instance i) → (q : Ref) × IsNameOfType s k.terms k.nodes (reference q) m
@@ -131,26 +126,108 @@ module _ (s : Sense) (table : Made) (x : Sources) (k : AreSources s table x) whe
   same_origin : (p : Piece) (o : TypeOrigin) → IsOriginOf k.made.more p o → (u : TypeOrigin) → IsTypeOrigin s k.terms (name_of_piece p) u → o ≡ u
   same_origin p o (of_type {x = y} {n = n} h) u (of_row {n = j} g c w) = ap T.Row (k.made.one_row n j (term_of y) h (kept k.made.grows g))
   same_origin p o (of_token {w = w} {k = n} h) u (of_word {k = j} g) = ap T.Word (k.made.distinct n j (text_of w) h (k.made.grows.texts j (text_of w) g))
+  same_origin p o (of_value {x = y} {n = n} h) u (of_row {n = j} g c w) = ap T.Row (k.made.one_row n j (term_of y) h (kept k.made.grows g))
 
-  -- types to which nothing led in rules with the number of a name stand in no rule of this name
-  stand_nowhere : (n : ℕ) (y : Text) (ids : List TypeId) → slice_get k.made.more.texts n ≡ Some y → HasNoPlace x n ids → StandNowhere (rules_of s.tree) (IsNameOfType s k.terms k.nodes) y ids
-  stand_nowhere n y ids e none r p m c named d b h =
-      let at = place_of (rules_of s.tree) r c in
-      let a = k.made.pieces.all at.0 r p at.1 d in
-      let ra = k.made.rules.all at.0 r at.1 in
-      let w = k.made.rules.told at.0 ra.0 ra.1 in
-      let is : w.0 ≡ r = one_of (slice_get (rules_of s.tree) at.0) w.0 r w.1 at.1 in
-      let number : ra.0.number ≡ n = k.made.distinct ra.0.number n y (w.2.number ∙ ap Some (ap name_in is ∙ named)) e in
-      none m h.origin a.0 b (ap (λ os. slice_get os m.number) k.made.origins ∙ h.there)
-      (record {
-        contained = a.1;
-        named = record { at = ra.0; there = ap (slice_get x.rules.items) a.2 ∙ ra.1; same = number };
-        same = same_origin p a.0.origin a.3 h.origin h.named;
-      })
+  -- The rules of a name, by the number of the name.
+  module _ (n : ℕ) (y : Text) (e : slice_get k.made.more.texts n ≡ Some y) where
+    -- what is found stands there
+
+    stands_at : (from : Option PieceAt) (a : PieceAt) → HasNumber x a.rule n → IsInside from a → (st : Stands k.made.more (rules_of s.tree) a) → StandsAt (rules_of s.tree) (IsNameOfType s k.terms k.nodes) y (option_map spot_of from) st.piece (spot_of a)
+    stands_at from a h inside st =
+        let r = named_rule a.rule n y h e in
+        let same : st.rule ≡ r.0 = one_of (slice_get (rules_of s.tree) a.rule) st.rule r.0 st.there r.1 in
+        record {
+          rule = r.0;
+          there = r.1;
+          named = r.3;
+          contained = subst (λ (z : S.Rule). Contains (in_rule z) st.piece) same st.contained;
+          span = st.is.span;
+          within = inside;
+        }
+
+    type_at : (from : Option PieceAt) (m : TypeId) (a : PieceAt) → IsTypeIn x n from m a → IsTypeAt (rules_of s.tree) (IsNameOfType s k.terms k.nodes) y (option_map spot_of from) m (spot_of a)
+    type_at from m a h =
+        let st = k.made.pieces.each a h.is.contained in
+        record { piece = st.piece; stands = stands_at from a h.is.named h.inside st; is = named_piece st.piece h.origin m h.there (subst (IsOriginOf k.made.more st.piece) h.is.same st.is.origin) }
+
+    value_at : (from : Option PieceAt) (key m : TypeId) (a : PieceAt) → IsValueIn x n from key m a → IsValueAt (rules_of s.tree) (IsNameOfType s k.terms k.nodes) y (option_map spot_of from) key m (spot_of a)
+    value_at from key m a h = by st.piece st.is.key t.0 t.1
+      where
+        st : Stands k.made.more (rules_of s.tree) a
+        st = k.made.pieces.each a h.is.is.contained
+
+        t : (StandsAt (rules_of s.tree) (IsNameOfType s k.terms k.nodes) y (option_map spot_of from) st.piece (spot_of a)) × IsNameOfType s k.terms k.nodes (name_of_piece st.piece) m
+        t = (stands_at from a h.is.is.named h.is.inside st, named_piece st.piece h.is.origin m h.is.there (subst (IsOriginOf k.made.more st.piece) h.is.is.same st.is.origin))
+
+        by : (p : Piece) → IsKeyOf k.made.more p a.key → StandsAt (rules_of s.tree) (IsNameOfType s k.terms k.nodes) y (option_map spot_of from) p (spot_of a) → IsNameOfType s k.terms k.nodes (name_of_piece p) m → IsValueAt (rules_of s.tree) (IsNameOfType s k.terms k.nodes) y (option_map spot_of from) key m (spot_of a)
+        by (a_value q z) g stands is = record { key_piece = q; types = z; stands = stands; is_key = named_piece q h.origin key h.there (subst (IsOriginOf k.made.more q) (same_some (sym g.1 ∙ h.same)) g.2); is = is }
+        by (a_type z) g stands is = absurd (some_none (sym h.same ∙ g))
+        by (a_word w) g stands is = absurd (some_none (sym h.same ∙ g))
+
+    -- what stands there is found
+
+    within_too : (from : Option PieceAt) (at : Spot) (a : PieceAt) → at.span.first ≡ a.span.first → at.span.end ≡ a.span.end → IsWithin (option_map spot_of from) at → IsInside from a
+    within_too None at a f g h = tt
+    within_too (Some o) at a f g h = let first = h.0 in let end = h.1 in (omega (arith, f, first), omega (arith, g, end))
+
+    found_at : (from : Option PieceAt) (p : Piece) (at : Spot) → StandsAt (rules_of s.tree) (IsNameOfType s k.terms k.nodes) y (option_map spot_of from) p at → (a : PieceAt) × Contains x.pieces.items a × HasNumber x a.rule n × IsInside from a × IsPieceAt k.made.more p a
+    found_at from p at h =
+        let a = k.made.pieces.all at.rule h.rule p h.there h.contained in
+        let ra = k.made.rules.all at.rule h.rule h.there in
+        let w = k.made.rules.told at.rule ra.0 ra.1 in
+        let is : w.0 ≡ h.rule = one_of (slice_get (rules_of s.tree) at.rule) w.0 h.rule w.1 h.there in
+        let number : ra.0.number ≡ n = k.made.distinct ra.0.number n y (w.2.number ∙ ap Some (ap name_in is ∙ h.named)) e in (
+          a.0,
+          a.1,
+          record { at = ra.0; there = ap (slice_get x.rules.items) a.2 ∙ ra.1; same = number },
+          within_too from at a.0 (one_start (tokens_of_piece p) at.span.first a.0.span.first h.span.starts a.3.span.starts) (one_end (tokens_of_piece p) at.span.end a.0.span.end h.span.ends a.3.span.ends) h.within,
+          a.3,
+        )
+
+    type_in : (from : Option PieceAt) (m : TypeId) (at : Spot) → IsTypeAt (rules_of s.tree) (IsNameOfType s k.terms k.nodes) y (option_map spot_of from) m at → (a : PieceAt) × IsTypeIn x n from m a
+    type_in from m at h =
+        let w = found_at from h.piece at h.stands in (
+          w.0,
+          record {
+            origin = h.is.origin;
+            there = ap (λ os. slice_get os m.number) k.made.origins ∙ h.is.there;
+            is = record { contained = w.1; named = w.2; same = same_origin h.piece w.0.origin w.4.origin h.is.origin h.is.named };
+            inside = w.3;
+          },
+        )
+
+    value_in : (from : Option PieceAt) (key m : TypeId) (at : Spot) → IsValueAt (rules_of s.tree) (IsNameOfType s k.terms k.nodes) y (option_map spot_of from) key m at → (a : PieceAt) × IsValueIn x n from key m a
+    value_in from key m at h =
+        let p : Piece = a_value h.key_piece h.types in
+        let w = found_at from p at h.stands in (
+          w.0,
+          record {
+            origin = h.is_key.origin;
+            there = ap (λ os. slice_get os key.number) k.made.origins ∙ h.is_key.there;
+            same = w.4.key.1 ∙ ap Some (same_origin h.key_piece w.4.key.0 w.4.key.2 h.is_key.origin h.is_key.named);
+            is = record {
+              origin = h.is.origin;
+              there = ap (λ os. slice_get os m.number) k.made.origins ∙ h.is.there;
+              is = record { contained = w.1; named = w.2; same = same_origin p w.0.origin w.4.origin h.is.origin h.is.named };
+              inside = w.3;
+            };
+          },
+        )
+
+    no_value : (from : Option PieceAt) (m : TypeId) (ms : List TypeId) → HasNoValueIn x n from m ms → HasNoValue (rules_of s.tree) (IsNameOfType s k.terms k.nodes) y (option_map spot_of from) m ms
+    no_value from m [] none = tt
+    no_value from m (v ∷ ms) none = λ at h. let w = value_in from m v at h in none w.0 w.1
+
+    -- what leads from place to place leads in the text
+    leads : {from to : Option PieceAt} {ms : List TypeId} → LeadsIn x n from ms to → Leads (rules_of s.tree) (IsNameOfType s k.terms k.nodes) y (option_map spot_of from) ms (option_map spot_of to)
+    leads by_none = arrives
+    leads (by_value {from = from} {key = key} {m = m} {a = a} v l) = to_value (value_at from key m a v) (leads l)
+    leads (by_type {from = from} {m = m} {ms = ms} {a = a} none t l) = to_type (no_value from m ms none) (type_at from m a t) (leads l)
+    leads (gone_by {from = from} {m = m} {ms = ms} none t l) = passes (no_value from m ms none) (λ at h. let w = type_in from m at h in t w.0 w.1) (leads l)
 
   -- a state after types tells the place of the last of them
-  pub is_place : (chain : List TypeId) (st : State) (p : Place) → IsStateAfter x chain st → IsTold x st st.found p → IsPlace (rules_of s.tree) (IsNameOfType s k.terms k.nodes) chain p
-  is_place chain st p h told = by st.found h.found told
+  pub is_place : (chain : List TypeId) (st : State) (found : Option PieceAt) (p : Place) → ((ids : List TypeId) → IsFoundAfter x st ids → LeadsIn x st.number None ids found) → IsStateAfter x chain st → IsTold x st found p → IsPlace (rules_of s.tree) (IsNameOfType s k.terms k.nodes) chain p
+  is_place chain st found p after h told = by found (after h.inside h.found) told
     where
       q : (q : Ref) × IsNameOfType s k.terms k.nodes (reference q) h.instance × (slice_get k.made.more.texts st.number ≡ Some (name_of q))
       q = instance_of h.instance st.number h.number
@@ -174,9 +251,6 @@ module _ (s : Sense) (table : Made) (x : Sources) (k : AreSources s table x) whe
             shown = shown r.0 r.1 r.3 (subst (λ (b : RuleAt). IsSpan (body_tokens r.0) b.body) same r.2.body);
           }
 
-      by : (o : Option PieceAt) → IsFoundOr x st.number h.inside o → IsTold x st o p → IsPlace (rules_of s.tree) (IsNameOfType s k.terms k.nodes) chain p
-      by None f t = of_rule st.rule h.rule t.0 t.1 t.2 (λ r there named body. the_body (stand_nowhere st.number (name_in r) h.inside (q.2 ∙ ap Some (sym named)) f) (subst (IsSpan (body_tokens r)) (sym t.3) body))
-      by (Some a) f t = of_rule a.rule f.is.named t.0 t.1 t.2 (λ r there named body.
-          let st : Stands k.made.more (rules_of s.tree) a = k.made.pieces.each a f.is.contained in
-          let same : st.rule ≡ r = one_of (slice_get (rules_of s.tree) a.rule) st.rule r st.there there in
-          a_piece (subst (λ (y : S.Rule). Contains (in_rule y) st.piece) same st.contained) f.contained (named_piece a f.id f.origin f.there f.is.same st) (subst (λ z. IsSpan (tokens_of_piece st.piece) z) (sym t.3) st.span))
+      by : (o : Option PieceAt) → LeadsIn x st.number None h.inside o → IsTold x st o p → IsPlace (rules_of s.tree) (IsNameOfType s k.terms k.nodes) chain p
+      by None l t = of_rule st.rule h.rule t.0 t.1 t.2 (λ r there named body. the_body (leads st.number (name_in r) (q.2 ∙ ap Some (sym named)) l) (subst (IsSpan (body_tokens r)) (sym t.3) body))
+      by (Some a) l t = of_rule a.rule (found_named x st.number h.inside (Some a) l) t.0 t.1 t.2 (λ r there named body. a_piece (leads st.number (name_in r) (q.2 ∙ ap Some (sym named)) l) there t.3)

@@ -2,12 +2,12 @@
 use Rattle.std.proofs.Common.{◌≡◌, ◌⊎◌, ◌+◌, ◌<◌, inl, inr, ℕ, zero, suc, length, take, get_or, arith, Bool, true, false, List, [], ◌∷◌, ◌++◌, Option, Some, None, IfNone, IfSome, slice_get, refl, sym, ap, subst, ◌∙◌, append_assoc}
 use Rattle.std.specs.List.{Contains}
 use Rattle.std.proofs.lemmas.List.{append-nil, take_more}
-use Rattle.std.proofs.lemmas.List.Elements.{Contains-append_left, Contains-push, Contains-push_cases}
-use Rattle.lists.proofs.Lemmas.{either, none_in, some_none, tested}
+use Rattle.std.proofs.lemmas.List.Elements.{Contains-append_left, Contains-push_cases}
+use Rattle.lists.proofs.Lemmas.{none_in, same_some}
 use Rattle.table_making.specs.declared.origin.TypeOrigin.{TypeOrigin}
 use Rattle.table_making.specs.declared.origin.TypeOrigin.TheVariants as T
 use Rattle.table_nodes.specs.declared.nodes.TypeId.{TypeId}
-use Rattle.cddl_sources.specs.States.{ArePassed, HasNoRule, HasNumber, IsFoundBy, IsFoundOr, IsOfOrigin, IsStarted, IsStateAfter, IsStateOf}
+use Rattle.cddl_sources.specs.States.{ArePassed, HasNoRule, HasNumber, IsFoundAfter, IsInside, IsOfOrigin, IsStarted, IsStateAfter, IsStateOf, IsTypeIn, IsValueIn, LeadsIn, arrives, passes, to_type, to_value, with_held}
 use Rattle.cddl_sources.specs.declared.piece.PieceAt.{PieceAt}
 use Rattle.cddl_sources.specs.declared.place.State.{State}
 use Rattle.cddl_sources.specs.declared.sources.Sources.{Sources}
@@ -24,7 +24,7 @@ module _ (x : Sources) (id : TypeId) where
     rule = h.rule;
     last = λ m c. absurd (none_in m c);
     passed = subst (λ (b : Bool). ArePassed x b []) (sym h.inside) refl;
-    found = subst (λ (o : Option PieceAt). IsFoundOr x st.number [] o) (sym h.found) (λ m o a c e i. none_in m c);
+    found = λ rest to l. subst (λ (o : Option PieceAt). LeadsIn x st.number o rest to) h.found (subst (λ (o : Option TypeId). LeadsIn x st.number st.found (with_held o rest) to) h.held l);
   }
 
   pub none_further : (ids : List TypeId) → HasNoRule x id → ((m : TypeId) → Contains ids m → HasNoRule x m) → (m : TypeId) → Contains (ids ++ id ∷ []) m → HasNoRule x m
@@ -35,7 +35,7 @@ module _ (x : Sources) (id : TypeId) where
       by (inr e) = subst (HasNoRule x) e h
 
   -- a type that is passed over
-  passed_more : (ids : List TypeId) (st new : State) (k : HasNoRule x id) → (h : IsStateAfter x ids st) → new.number ≡ st.number → new.rule ≡ st.rule → new.found ≡ st.found → ArePassed x new.is_inside (h.outside ++ id ∷ []) → IsStateAfter x (ids ++ id ∷ []) new
+  passed_more : (ids : List TypeId) (st new : State) (k : HasNoRule x id) → (h : IsStateAfter x ids st) → new.number ≡ st.number → new.rule ≡ st.rule → IsFoundAfter x new h.inside → ArePassed x new.is_inside (h.outside ++ id ∷ []) → IsStateAfter x (ids ++ id ∷ []) new
   passed_more ids st new k h number rule found passed = record {
     before = h.before;
     instance = h.instance;
@@ -49,7 +49,7 @@ module _ (x : Sources) (id : TypeId) where
     rule = subst (λ (n : ℕ). HasNumber x new.rule n) (sym number) (subst (λ (i : ℕ). HasNumber x i st.number) (sym rule) h.rule);
     last = λ m c. none_further (h.inside ++ h.outside) k h.last m (subst (λ (xs : List TypeId). Contains xs m) (sym (append_assoc h.inside h.outside (id ∷ []))) c);
     passed = passed;
-    found = subst (λ (n : ℕ). IsFoundOr x n h.inside new.found) (sym number) (subst (IsFoundOr x st.number h.inside) (sym found) h.found);
+    found = found;
   }
 
   still_passed : (ids : List TypeId) → ArePassed x false ids → ArePassed x false (ids ++ id ∷ [])
@@ -57,7 +57,7 @@ module _ (x : Sources) (id : TypeId) where
 
   -- an instance of a name of the prelude
   pub gone_out : (ids : List TypeId) (st : State) (k : ℕ) → slice_get x.origins.items id.number ≡ Some (T.Instance k) → HasNoRule x id → IsStateAfter x ids st → IsStateAfter x (ids ++ id ∷ []) (record st { is_inside = false })
-  gone_out ids st k there none h = passed_more ids st _ none h refl refl refl (by st.is_inside h.passed)
+  gone_out ids st k there none h = passed_more ids st (record st { is_inside = false }) none h refl refl h.found (by st.is_inside h.passed)
     where
       by : (b : Bool) → ArePassed x b h.outside → ArePassed x false (h.outside ++ id ∷ [])
       by true e = (id, [], k, ap (λ (xs : List TypeId). xs ++ id ∷ []) e, there)
@@ -65,10 +65,10 @@ module _ (x : Sources) (id : TypeId) where
 
   -- one after that
   pub gone_by : (ids : List TypeId) (st : State) → st.is_inside ≡ false → HasNoRule x id → IsStateAfter x ids st → IsStateAfter x (ids ++ id ∷ []) st
-  gone_by ids st e none h = passed_more ids st st none h refl refl refl (subst (λ (b : Bool). ArePassed x b (h.outside ++ id ∷ [])) (sym e) (still_passed h.outside (subst (λ (b : Bool). ArePassed x b h.outside) e h.passed)))
+  gone_by ids st e none h = passed_more ids st st none h refl refl h.found (subst (λ (b : Bool). ArePassed x b (h.outside ++ id ∷ [])) (sym e) (still_passed h.outside (subst (λ (b : Bool). ArePassed x b h.outside) e h.passed)))
 
   -- a type in the rule
-  pub gone_in : (ids : List TypeId) (st new : State) → st.is_inside ≡ true → HasNoRule x id → IsStateAfter x ids st → new.number ≡ st.number → new.rule ≡ st.rule → new.is_inside ≡ st.is_inside → ((ys : List TypeId) → IsFoundOr x st.number ys st.found → IsFoundOr x st.number (ys ++ id ∷ []) new.found) → IsStateAfter x (ids ++ id ∷ []) new
+  pub gone_in : (ids : List TypeId) (st new : State) → st.is_inside ≡ true → HasNoRule x id → IsStateAfter x ids st → new.number ≡ st.number → new.rule ≡ st.rule → new.is_inside ≡ st.is_inside → ((ys : List TypeId) → IsFoundAfter x st ys → IsFoundAfter x new (ys ++ id ∷ [])) → IsStateAfter x (ids ++ id ∷ []) new
   gone_in ids st new e none h number rule inside found =
       let empty : h.outside ≡ [] = subst (λ (b : Bool). ArePassed x b h.outside) e h.passed in
       record {
@@ -84,36 +84,51 @@ module _ (x : Sources) (id : TypeId) where
         rule = subst (λ (n : ℕ). HasNumber x new.rule n) (sym number) (subst (λ (i : ℕ). HasNumber x i st.number) (sym rule) h.rule);
         last = λ m c. none_further h.inside none (λ y d. h.last y (Contains-append_left h.inside h.outside y d)) m (subst (λ (xs : List TypeId). Contains xs m) (append-nil (h.inside ++ id ∷ [])) c);
         passed = subst (λ (b : Bool). ArePassed x b []) (sym (inside ∙ e)) refl;
-        found = subst (λ (n : ℕ). IsFoundOr x n (h.inside ++ id ∷ []) new.found) (sym number) (found h.inside h.found);
+        found = found h.inside h.found;
       }
 
-  wider : (n : ℕ) (ids : List TypeId) (a : PieceAt) → IsFoundBy x n ids a → IsFoundBy x n (ids ++ id ∷ []) a
-  wider n ids a h = record { id = h.id; origin = h.origin; contained = Contains-append_left ids (id ∷ []) h.id h.contained; there = h.there; is = h.is }
+  -- one more, with what was found and the type that is held back then
+  pub found_after : (st : State) (f : Option PieceAt) (k : Option TypeId) → ((rest : List TypeId) (to : Option PieceAt) → LeadsIn x st.number f (with_held k rest) to → LeadsIn x st.number st.found (with_held st.held (id ∷ rest)) to) → (ids : List TypeId) → IsFoundAfter x st ids → IsFoundAfter x (record st { found = f; held = k }) (ids ++ id ∷ [])
+  found_after st f k step ids h = λ rest to l. subst (λ (ms : List TypeId). LeadsIn x st.number None ms to) (sym (append_assoc ids (id ∷ []) rest)) (h (id ∷ rest) to (step rest to l))
 
-  -- where the type leads to no further place
-  pub same_found : (n : ℕ) (o : Option PieceAt) → (o ≡ None → (origin : TypeOrigin) (a : PieceAt) → slice_get x.origins.items id.number ≡ Some origin → IsOfOrigin x n origin a → ⊥) → (ids : List TypeId) → IsFoundOr x n ids o → IsFoundOr x n (ids ++ id ∷ []) o
-  same_found n (Some a) none ids h = wider n ids a h
-  same_found n None none ids h = λ m origin a c e i. by m origin a e i (Contains-push_cases ids id m c)
-    where
-      by : (m : TypeId) (origin : TypeOrigin) (a : PieceAt) → slice_get x.origins.items m.number ≡ Some origin → IsOfOrigin x n origin a → Contains ids m ⊎ (id ≡ m) → ⊥
-      by m origin a e i (inl c) = h m origin a c e i
-      by m origin a e i (inr same) = none refl origin a (ap (λ (y : TypeId). slice_get x.origins.items y.number) same ∙ e) i
-
-  -- a number that is no type's
-  pub gone_unknown : (ids : List TypeId) (st : State) → slice_get x.origins.items id.number ≡ None → HasNoRule x id → IsStateAfter x ids st → IsStateAfter x (ids ++ id ∷ []) st
-  gone_unknown ids st there none h =
-      either (tested st.is_inside)
-      (λ e. gone_in ids st st e none h refl refl refl (same_found st.number st.found (λ f o a g i. some_none (sym g ∙ there))))
-      (λ e. gone_by ids st e none h)
-
-  -- where it leads to one
-  pub next_found : (n : ℕ) (origin : TypeOrigin) (a : PieceAt) (ids : List TypeId) → slice_get x.origins.items id.number ≡ Some origin → IsOfOrigin x n origin a → IsFoundBy x n (ids ++ id ∷ []) a
-  next_found n origin a ids there is = record { id = id; origin = origin; contained = Contains-push ids id; there = there; is = is }
+-- what is found last leads from what was found by the type that is held back
+pub last_after : (x : Sources) (st : State) (to : Option PieceAt) → LeadsIn x st.number st.found (with_held st.held []) to → (ids : List TypeId) → IsFoundAfter x st ids → LeadsIn x st.number None ids to
+last_after x st to l ids h = subst (λ (ms : List TypeId). LeadsIn x st.number None ms to) (append-nil ids) (h [] to l)
 
 -- what was found is in a rule of the name
-pub found_named : (x : Sources) (n : ℕ) (ids : List TypeId) (o : Option PieceAt) → IsFoundOr x n ids o → IfSome o (λ a. HasNumber x a.rule n)
-found_named x n ids None h = tt
-found_named x n ids (Some a) h = h.is.named
+found_from : (x : Sources) (n : ℕ) {from to : Option PieceAt} {ms : List TypeId} → LeadsIn x n from ms to → IfSome from (λ a. HasNumber x a.rule n) → IfSome to (λ a. HasNumber x a.rule n)
+found_from x n arrives h = h
+found_from x n (to_value v l) h = found_from x n l v.is.is.named
+found_from x n (to_type none t l) h = found_from x n l t.is.named
+found_from x n (passes none t l) h = found_from x n l h
+
+pub found_named : (x : Sources) (n : ℕ) (ids : List TypeId) (o : Option PieceAt) → LeadsIn x n None ids o → IfSome o (λ a. HasNumber x a.rule n)
+found_named x n ids o l = found_from x n l tt
+
+-- what is found by origins is found by the types that have them
+
+pub any_type : (x : Sources) (n : ℕ) (from : Option PieceAt) (id : TypeId) (a : PieceAt) {o : TypeOrigin} → slice_get x.origins.items id.number ≡ Some o → IsOfOrigin x n o a → IsInside from a → IsTypeIn x n from id a
+any_type x n from id a {o = o} there is inside = record { origin = o; there = there; is = is; inside = inside }
+
+of_same : (x : Sources) (n : ℕ) (a : PieceAt) (o p : TypeOrigin) → o ≡ p → IsOfOrigin x n o a → IsOfOrigin x n p a
+of_same x n a o p e h = record { contained = h.contained; named = h.named; same = h.same ∙ e }
+
+pub no_type : (x : Sources) (n : ℕ) (from : Option PieceAt) (id : TypeId) (a : PieceAt) {o : TypeOrigin} → slice_get x.origins.items id.number ≡ Some o → ((b : PieceAt) → IsOfOrigin x n o b → IsInside from b → ⊥) → IsTypeIn x n from id a → ⊥
+no_type x n from id a {o = o} there none h = none a (of_same x n a h.origin o (same_some (sym h.there ∙ there)) h.is) h.inside
+
+pub any_value : (x : Sources) (n : ℕ) (from : Option PieceAt) (key id : TypeId) (a : PieceAt) {k o : TypeOrigin} → slice_get x.origins.items key.number ≡ Some k → slice_get x.origins.items id.number ≡ Some o → IsOfOrigin x n o a → IsInside from a → a.key ≡ Some k → IsValueIn x n from key id a
+any_value x n from key id a {k = k} there is_there is inside same = record { origin = k; there = there; same = same; is = any_type x n from id a is_there is inside }
+
+pub no_value : (x : Sources) (n : ℕ) (from : Option PieceAt) (key id : TypeId) (a : PieceAt) {k o : TypeOrigin} → slice_get x.origins.items key.number ≡ Some k → slice_get x.origins.items id.number ≡ Some o → ((b : PieceAt) → IsOfOrigin x n o b → IsInside from b → b.key ≡ Some k → ⊥) → IsValueIn x n from key id a → ⊥
+no_value x n from key id a {k = k} {o = o} there is_there none h = none a (of_same x n a h.is.origin o (same_some (sym h.is.there ∙ is_there)) h.is.is) h.is.inside (h.same ∙ ap Some (same_some (sym h.there ∙ there)))
+
+pub some_then : {A : Type 0} (o : Option A) (P Q : A → Type 0) → ((a : A) → P a → Q a) → IfSome o P → IfSome o Q
+some_then None P Q f h = tt
+some_then (Some a) P Q f h = f a h
+
+pub none_then : {A : Type 0} (o : Option A) (P Q : Type 0) → (P → Q) → IfNone o P → IfNone o Q
+none_then None P Q f h = f h
+none_then (Some a) P Q f h = tt
 
 -- what holds is told where there is nothing
 pub if_none : {A : Type 0} (o : Option A) (P : Type 0) → P → IfNone o P

@@ -6,14 +6,21 @@ use Rattle.tree_nodes.specs.Syntax.Syntax as S
 use Rattle.cddl_language.specs.Language.{TypeName, type, word}
 use Rattle.cddl_language.specs.Reading.{term_of, text_of}
 
--- a type, or a bareword that is a key
+-- a type; a bareword that is a key; or the type of the value in an entry that has this key
 pub data Piece : Type 0 where
   a_type : S.Types → Piece
   a_word : Token → Piece
+  a_value : (key : Piece) → S.Types → Piece
 
 -- an operand by itself, which is a type too
 abbrev pub operand : S.Type2 → Piece
 operand x = a_type (S.only (S.one x))
+
+-- the key of an entry
+abbrev pub key_piece : S.MemberKey → Piece
+key_piece (S.type_key r u a) = a_type (S.only r)
+key_piece (S.bareword n c) = a_word n
+key_piece (S.value_key v c) = operand (S.literal v)
 
 -- Each type with those in it, in the order of the text: a whole choice, its members, their operands, and what these have in them.
 abbrev mutual
@@ -61,7 +68,7 @@ abbrev mutual
 
   pub in_entry : S.GrpEnt → List Piece
   in_entry (S.typed o t) = in_types t
-  in_entry (S.keyed o k t) = in_key k ++ in_types t
+  in_entry (S.keyed o k t) = in_key k ++ (a_value (key_piece k) t ∷ in_types t)
   in_entry (S.grouped o p g c) = in_group g
 
   pub in_key : S.MemberKey → List Piece
@@ -85,7 +92,9 @@ rule_by_rule k (r ∷ rs) = placed k (in_rule r) ++ rule_by_rule (k + 1) rs
 abbrev pub name_of_piece : Piece → TypeName
 name_of_piece (a_type x) = type (term_of x)
 name_of_piece (a_word t) = word (text_of t)
+name_of_piece (a_value k x) = type (term_of x)
 
 abbrev pub tokens_of_piece : Piece → List S.Lexeme
 tokens_of_piece (a_type x) = S.flat_types x
 tokens_of_piece (a_word t) = (Name, t) ∷ []
+tokens_of_piece (a_value k x) = S.flat_types x

@@ -1,5 +1,5 @@
 -- Parts of a text by the offsets of their tokens.
-use Rattle.std.specs.Prelude.{◌≡◌, ℕ, ◌+◌, List, [], ◌∷◌, ◌++◌, length}
+use Rattle.std.specs.Prelude.{◌≡◌, ℕ, ◌+◌, ◌≤◌, List, [], ◌∷◌, ◌++◌, Option, Some, None, length}
 use Rattle.tree_nodes.specs.Syntax.Syntax as S
 use Rattle.tree_nodes.specs.View.{StartsAt}
 use Rattle.cddl_language.specs.Reading.{name_at, name_in}
@@ -16,6 +16,16 @@ pub record EndsAt (ts : List S.Lexeme) (at : ℕ) : Type 0 where
 pub record IsSpan (ts : List S.Lexeme) (s : Span) : Type 0 where
   pub starts : StartsAt ts s.first
   pub ends : EndsAt ts s.end
+
+-- a part of the text in a rule, which is named by its place in the list of rules
+pub record Spot : Type 0 where
+  pub rule : ℕ
+  pub span : Span
+
+-- it lies within the other part, where there is another
+abbrev pub IsWithin : Option Spot → Spot → Type 0
+IsWithin None s = Unit {0}
+IsWithin (Some o) s = (o.span.first ≤ s.span.first) × (s.span.end ≤ o.span.end)
 
 -- what a rule has after its sign
 abbrev pub body_tokens : S.Rule → List S.Lexeme

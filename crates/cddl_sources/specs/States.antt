@@ -1,10 +1,11 @@
 -- What types that led to one another have led to, by numbers.
-use Rattle.std.specs.Prelude.{◌≡◌, ℕ, Bool, true, false, List, [], ◌∷◌, ◌++◌, Contains, Option, Some, None, slice_get}
+use Rattle.std.specs.Prelude.{◌≡◌, ℕ, Bool, true, false, List, [], ◌∷◌, ◌++◌, Contains, Option, Some, None, option_map, slice_get}
 use Rattle.check_terms.specs.declared.row.Row.{Row}
 use Rattle.check_instances.specs.declared.closed.closed.Meaning.{Meaning}
 use Rattle.table_making.specs.declared.origin.TypeOrigin.{TypeOrigin}
 use Rattle.table_making.specs.declared.origin.TypeOrigin.TheVariants as T
 use Rattle.table_nodes.specs.declared.nodes.TypeId.{TypeId}
+use Rattle.cddl_sources.specs.Spans.{IsWithin, Spot}
 use Rattle.cddl_sources.specs.declared.piece.PieceAt.{PieceAt}
 use Rattle.cddl_sources.specs.declared.place.Place.{Place}
 use Rattle.cddl_sources.specs.declared.place.State.{State}
@@ -49,26 +50,51 @@ pub record IsOfOrigin (x : Sources) (n : ℕ) (o : TypeOrigin) (a : PieceAt) : T
   pub named : HasNumber x a.rule n
   pub same : a.origin ≡ o
 
--- found by one of these types
-pub record IsFoundBy (x : Sources) (n : ℕ) (ids : List TypeId) (a : PieceAt) : Type 0 where
-  pub id : TypeId
-  pub origin : TypeOrigin
-  pub contained : Contains ids id
-  pub there : slice_get x.origins.items id.number ≡ Some origin
-  pub is : IsOfOrigin x n origin a
+abbrev pub spot_of : PieceAt → Spot
+spot_of a = record { rule = a.rule; span = a.span }
 
--- none of these types stands in a rule with this number
-abbrev pub HasNoPlace : Sources → ℕ → List TypeId → Type 0
-HasNoPlace x n ids = (m : TypeId) (o : TypeOrigin) (a : PieceAt) → Contains ids m → slice_get x.origins.items m.number ≡ Some o → IsOfOrigin x n o a → ⊥
+-- it lies within what was found before, if something was
+abbrev pub IsInside : Option PieceAt → PieceAt → Type 0
+IsInside from a = IsWithin (option_map spot_of from) (spot_of a)
+
+-- it is of this type
+pub record IsTypeIn (x : Sources) (n : ℕ) (from : Option PieceAt) (m : TypeId) (a : PieceAt) : Type 0 where
+  pub origin : TypeOrigin
+  pub there : slice_get x.origins.items m.number ≡ Some origin
+  pub is : IsOfOrigin x n origin a
+  pub inside : IsInside from a
+
+-- it is of the second type, the value of an entry whose key is of the first
+pub record IsValueIn (x : Sources) (n : ℕ) (from : Option PieceAt) (key m : TypeId) (a : PieceAt) : Type 0 where
+  pub origin : TypeOrigin
+  pub there : slice_get x.origins.items key.number ≡ Some origin
+  pub same : a.key ≡ Some origin
+  pub is : IsTypeIn x n from m a
+
+abbrev pub HasNoValueIn : Sources → ℕ → Option PieceAt → TypeId → List TypeId → Type 0
+HasNoValueIn x n from m [] = Unit {0}
+HasNoValueIn x n from m (v ∷ ms) = (a : PieceAt) → IsValueIn x n from m v a → ⊥
+
+-- Types lead from what was found before to what is found then.
+pub data LeadsIn (x : Sources) (n : ℕ) : Option PieceAt → List TypeId → Option PieceAt → Type 0 where
+  arrives : {from : Option PieceAt} → LeadsIn x n from [] from
+  to_value : {from to : Option PieceAt} {key m : TypeId} {ms : List TypeId} {a : PieceAt} → IsValueIn x n from key m a → LeadsIn x n (Some a) ms to → LeadsIn x n from (key ∷ m ∷ ms) to
+  to_type : {from to : Option PieceAt} {m : TypeId} {ms : List TypeId} {a : PieceAt} → HasNoValueIn x n from m ms → IsTypeIn x n from m a → LeadsIn x n (Some a) ms to → LeadsIn x n from (m ∷ ms) to
+  passes : {from to : Option PieceAt} {m : TypeId} {ms : List TypeId} → HasNoValueIn x n from m ms → ((a : PieceAt) → IsTypeIn x n from m a → ⊥) → LeadsIn x n from ms to → LeadsIn x n from (m ∷ ms) to
+
+-- the type that is held back, if one is, before the others
+abbrev pub with_held : Option TypeId → List TypeId → List TypeId
+with_held None ms = ms
+with_held (Some m) ms = m ∷ ms
+
+-- Where the types lead to with others after them, what was found leads to by the held one and these.
+abbrev pub IsFoundAfter : Sources → State → List TypeId → Type 0
+IsFoundAfter x st ids = (rest : List TypeId) (to : Option PieceAt) → LeadsIn x st.number st.found (with_held st.held rest) to → LeadsIn x st.number None (ids ++ rest) to
 
 -- Types that were passed over: none, or they begin with an instance.
 abbrev pub ArePassed : Sources → Bool → List TypeId → Type 0
 ArePassed x true ids = ids ≡ []
 ArePassed x false ids = (m : TypeId) × (ms : List TypeId) × (k : ℕ) × (ids ≡ m ∷ ms) × (slice_get x.origins.items m.number ≡ Some (T.Instance k))
-
-abbrev pub IsFoundOr : Sources → ℕ → List TypeId → Option PieceAt → Type 0
-IsFoundOr x n ids None = HasNoPlace x n ids
-IsFoundOr x n ids (Some a) = IsFoundBy x n ids a
 
 -- The state is of the last of the types that is an instance of a rule of the text, and of those after it up to the next instance.
 pub record IsStateAfter (x : Sources) (ids : List TypeId) (st : State) : Type 0 where
@@ -81,7 +107,7 @@ pub record IsStateAfter (x : Sources) (ids : List TypeId) (st : State) : Type 0 
   pub rule : HasNumber x st.rule st.number
   pub last : (m : TypeId) → Contains (inside ++ outside) m → HasNoRule x m
   pub passed : ArePassed x st.is_inside outside
-  pub found : IsFoundOr x st.number inside st.found
+  pub found : IsFoundAfter x st inside
 
 abbrev pub IsStateOf : Sources → List TypeId → Option State → Type 0
 IsStateOf x ids None = (m : TypeId) → Contains ids m → HasNoRule x m
@@ -93,6 +119,7 @@ pub record IsStarted (x : Sources) (m : TypeId) (st : State) : Type 0 where
   pub rule : HasNumber x st.rule st.number
   pub inside : st.is_inside ≡ true
   pub found : st.found ≡ None
+  pub held : st.held ≡ None
 
 -- What a state tells: what was found in the rules of its name, or else the body of the first of these.
 abbrev pub IsTold : Sources → State → Option PieceAt → Place → Type 0

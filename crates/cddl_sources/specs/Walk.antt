@@ -8,11 +8,11 @@ use Rattle.tree_nodes.specs.declared.tree.Entry.{Entry}
 use Rattle.tree_nodes.specs.declared.tree.Further.{Further}
 use Rattle.tree_nodes.specs.declared.tree.GrpChoice.{GrpChoice}
 use Rattle.tree_nodes.specs.declared.tree.GrpEnt.TheViews.{out-GrpChoice}
-use Rattle.tree_nodes.specs.View.{view_grpent, view_type1, view_type2, view_types, view_value}
+use Rattle.tree_nodes.specs.View.{view_grpent, view_key, view_type1, view_type2, view_types, view_value}
 use Rattle.cddl_sources.specs.declared.node.Found.{Found}
 use Rattle.cddl_sources.specs.declared.node.Node.{Node}
 use Rattle.cddl_sources.specs.declared.node.Node.TheVariants as NodeV
-use Rattle.cddl_sources.specs.Pieces.{Piece, a_type, a_word, in_entry, in_type1, operand, placed}
+use Rattle.cddl_sources.specs.Pieces.{Piece, a_type, a_value, a_word, in_entry, in_type1, key_piece, operand, placed}
 
 abbrev pub view_node : (Leaf → Token) → Node → Piece
 view_node read (NodeV.Choice t) = a_type (view_types read t.now)
@@ -20,6 +20,7 @@ view_node read (NodeV.Operation t) = a_type (S.only (view_type1 read t.now))
 view_node read (NodeV.Operand t) = operand (view_type2 read t.now)
 view_node read (NodeV.Literal v) = operand (S.literal (view_value read v))
 view_node read (NodeV.Word l) = a_word (read l)
+view_node read (NodeV.Value k t) = a_value (key_piece (view_key read k.now)) (view_types read t.now)
 
 -- with the place of its rule
 abbrev pub view_found : (Leaf → Token) → Found → ℕ × Piece

@@ -1,6 +1,13 @@
 //! What stands in the text of a rule: a type, or a word that is a key, with the node of the tree that it is.
 
-use tree_nodes::{Leaf, Type1, Type2, Types, Value};
+ghost use Rattle.std.specs.Prelude.{◌≡◌};
+ghost use Rattle.cddl_token.specs.declared.Token.{Token};
+ghost use Rattle.tree_nodes.specs.View.{view_key};
+ghost use Rattle.tree_nodes.specs.declared.tree.Leaf.{Leaf as ALeaf};
+ghost use Rattle.cddl_sources.specs.Pieces.{key_piece};
+ghost use Rattle.cddl_sources.specs.Walk.{view_node};
+
+use tree_nodes::{Leaf, MemberKey, Type1, Type2, Types, Value};
 
 // A node of the tree that is a type, or a word that is a key.
 #[derive(Clone, Copy)]
@@ -14,6 +21,8 @@ pub(crate) enum Node<'t> {
     Literal(Value),
     /// A bareword that is a key.
     Word(Leaf),
+    /// The type of the value in an entry that has this key.
+    Value(&'t MemberKey, &'t Types),
 }
 
 // A node, and the place of its rule in the list of rules, from 0.
@@ -21,4 +30,15 @@ pub(crate) enum Node<'t> {
 pub(crate) struct Found<'t> {
     pub(crate) rule: usize,
     pub(crate) node: Node<'t>,
+}
+
+// The key of an entry.
+pub(crate) fn key_node(key: &MemberKey) -> Node<'_>
+    ensures { (read : ALeaf → Token) → view_node read result ≡ key_piece (view_key read key.now) }
+{
+    match key {
+        MemberKey::TypeKey { type1, .. } => Node::Operation(type1),
+        MemberKey::Bareword { name, .. } => Node::Word(*name),
+        MemberKey::ValueKey { value, .. } => Node::Literal(*value),
+    }
 }

@@ -6,10 +6,10 @@ ghost use Rattle.cddl_language.specs.Terms.{Term, typed};
 ghost use Rattle.check_terms.specs.Table.{Grows, Holds, node, nothing};
 ghost use Rattle.check_terms.specs.Trees.{IsEntry, IsTerm, literal_tree};
 ghost use Rattle.tree_nodes.specs.View.{token_of, view_type1, view_types, view_value};
-ghost use Rattle.cddl_sources.specs.Origins.{AreRead, IsOriginOf};
+ghost use Rattle.cddl_sources.specs.Origins.{AreRead, IsKeyOf, IsOriginOf};
 ghost use Rattle.cddl_sources.specs.Walk.{view_node};
 
-use crate::node::{Found, Node};
+use crate::node::{Found, Node, key_node};
 use crate::piece::PieceAt;
 use crate::span::node_span;
 use check_reading::reader::{read_operand, read_operation, read_type_entry};
@@ -34,9 +34,11 @@ pub(crate) fn pieces_of<'s>(
     let mut pieces = Vec::new(alloc);
     for node in found {
         let origin = node_origin(terms, tree, node.node)?;
+        let key = key_origin(terms, tree, node.node)?;
         let piece = PieceAt {
             rule: node.rule,
             origin,
+            key,
             span: node_span(tree, node.node),
         };
         push(&mut pieces, piece)?;
@@ -50,6 +52,25 @@ fn push(pieces: &mut Vec<PieceAt>, piece: PieceAt) -> Result<(), NoRoom>
     match pieces.push(piece) {
         Ok(()) => Ok(()),
         Err(_) => Err(NoRoom),
+    }
+}
+
+// What the key is of, where the node is the type of the value in an entry.
+fn key_origin<'s>(
+    terms: &mut Terms<'s>,
+    tree: &Tree<'s>,
+    node: Node<'_>,
+) -> Result<Option<TypeOrigin>, NoRoom>
+    ensures grows { Grows terms.old terms.new }
+    ensures key { IfOk result (λ o. IsKeyOf terms.new (view_node (token_of tree.now) node.entry) o) }
+{
+    match node {
+        Node::Value(key, _) => Ok(Some(node_origin(terms, tree, key_node(key))?)),
+        Node::Choice(_) => Ok(None),
+        Node::Operation(_) => Ok(None),
+        Node::Operand(_) => Ok(None),
+        Node::Literal(_) => Ok(None),
+        Node::Word(_) => Ok(None),
     }
 }
 
@@ -68,6 +89,7 @@ fn node_origin<'s>(
         Node::Operand(type2) => Ok(TypeOrigin::Row(read_operand(terms, tree, type2)?)),
         Node::Literal(value) => Ok(TypeOrigin::Row(read_literal(terms, tree, value)?)),
         Node::Word(leaf) => Ok(TypeOrigin::Word(terms.add_text(text_at(tree, leaf))?)),
+        Node::Value(_, types) => Ok(TypeOrigin::Row(read_types(terms, tree, types)?)),
     }
 }
 

@@ -9,5 +9,7 @@ pub(crate) struct PieceAt {
     // The place of its rule in the list of rules, from 0.
     pub(crate) rule: usize,
     pub(crate) origin: TypeOrigin,
+    // What its key is of, where it is the type of the value in an entry.
+    pub(crate) key: Option<TypeOrigin>,
     pub(crate) span: Span,
 }

@@ -1,6 +1,6 @@
 //! Where a type of the table stands in the text, by the types that led to it.
 
-ghost use Rattle.std.specs.Prelude.{◌≡◌, ◌↔◌, ℕ, ◌++◌, [], ◌∷◌, Contains, IfNone, IfSome, IsTrue, List, None, Some, false, slice_get};
+ghost use Rattle.std.specs.Prelude.{◌≡◌, ◌↔◌, ℕ, ◌++◌, [], ◌∷◌, Contains, IfNone, IfSome, IsTrue, List, None, Option, Some, false, slice_get};
 ghost use Rattle.cddl_language.specs.Reading.{rules_of};
 ghost use Rattle.table_making.specs.Basis.{Sense};
 ghost use Rattle.table_making.specs.Nodes.{IsNameOfType};
@@ -8,7 +8,7 @@ ghost use Rattle.table_nodes.specs.declared.nodes.TypeId.{TypeId as Id};
 ghost use Rattle.table_nodes.specs.declared.table.Table.{Table};
 ghost use Rattle.cddl_sources.specs.Places.{IsOfNoRule, IsPlace};
 ghost use Rattle.cddl_sources.specs.Sources.{AreSources};
-ghost use Rattle.cddl_sources.specs.States.{HasNoRule, HasNumber, IsOfOrigin, IsStarted, IsStateAfter, IsStateOf, IsTold, number_at};
+ghost use Rattle.cddl_sources.specs.States.{HasNoRule, HasNoValueIn, HasNumber, IsFoundAfter, IsInside, IsOfOrigin, IsStarted, IsStateAfter, IsStateOf, IsTold, IsTypeIn, IsValueIn, LeadsIn, number_at};
 ghost use Rattle.cddl_sources.specs.declared.piece.PieceAt.{PieceAt as Piece};
 
 use crate::piece::PieceAt;
@@ -38,6 +38,9 @@ pub(crate) struct State {
     pub(crate) is_inside: bool,
     // What was found last in the rules of that name.
     pub(crate) found: Option<PieceAt>,
+    // The type after that, if one came. It is looked for when the next one is known, which may be the value of an entry that has
+    // it as its key.
+    pub(crate) held: Option<TypeId>,
 }
 
 impl Sources {
@@ -45,8 +48,8 @@ impl Sources {
     ///
     /// The rule is the one of which the last is an instance that is an instance of a rule of the text, so a name of the prelude
     /// stands where it is asked for. From there on each type narrows it: to the first place in the rules of that name that is of
-    /// this type, and not before the place of the one found before. The key of a member may come right before its type: then it
-    /// is the type of that member. Nothing is told where none is an instance of a rule of the text.
+    /// this type, within the place of the one found before. Where the key of an entry comes right before the type of its value, it
+    /// is that entry's. Nothing is told where none is an instance of a rule of the text.
     ///
     /// It takes time in proportion to the types in the text for each of these.
     pub fn place(&self, chain: &[TypeId]) -> Option<Place>
@@ -58,17 +61,17 @@ impl Sources {
             state = self.step(state, *id);
         }
         match state {
-            Some(state) => self.told(state),
+            Some(state) => self.told(state, self.last_found(state)),
             None => None,
         }
     }
 
-    // The place that a state tells.
-    fn told(&self, state: State) -> Option<Place>
-        ensures some { IfSome result (λ p. IsTold self.now state state.found p) }
-        ensures none { IfNone result (HasNumber self.now state.rule state.number → IfSome state.found (λ f. HasNumber self.now f.rule state.number) → ⊥) }
+    // The place that a state tells, with what was found last.
+    fn told(&self, state: State, found: Option<PieceAt>) -> Option<Place>
+        ensures some { IfSome result (λ p. IsTold self.now state found p) }
+        ensures none { IfNone result (HasNumber self.now state.rule state.number → IfSome found (λ f. HasNumber self.now f.rule state.number) → ⊥) }
     {
-        match state.found {
+        match found {
             Some(piece) => {
                 let rule = self.rules.get(piece.rule)?;
                 Some(Place {
@@ -111,6 +114,7 @@ impl Sources {
             rule,
             is_inside: true,
             found: None,
+            held: None,
         })
     }
 
@@ -147,45 +151,141 @@ impl Sources {
     fn narrowed(&self, state: State, id: TypeId) -> State
         ensures { (ids : List Id) → HasNoRule self.now id → IsStateAfter self.now ids state → IsStateAfter self.now (ids ++ id ∷ []) result }
     {
-        match self.origin_of(id) {
-            Some(TypeOrigin::Instance(_)) => outside(state),
-            Some(origin) => self.narrowed_to(state, id, origin),
-            None => state,
-        }
-    }
-
-    // The state after a type of this origin, which is no instance.
-    fn narrowed_to(&self, state: State, id: TypeId, origin: TypeOrigin) -> State
-        requires { slice_get self.now.origins.items id.number ≡ Some origin }
-        ensures { (ids : List Id) → HasNoRule self.now id → IsStateAfter self.now ids state → IsStateAfter self.now (ids ++ id ∷ []) result }
-    {
         if !state.is_inside {
             return state;
         }
-        match self.next_piece(state, origin) {
-            Some(piece) => with_piece(state, piece),
-            None => state,
+        match self.origin_of(id) {
+            Some(TypeOrigin::Instance(_)) => outside(state),
+            _ => self.narrowed_to(state, id),
         }
     }
 
-    // The first place in the rules of the name that is of this, and not before the place of the one found before.
-    fn next_piece(&self, state: State, origin: TypeOrigin) -> Option<PieceAt>
-        ensures some { IfSome result (IsOfOrigin self.now state.number origin) }
-        ensures none { IfNone result (state.found ≡ None → (a : Piece) → IsOfOrigin self.now state.number origin a → ⊥) }
+    // The state after a type in the rule.
+    fn narrowed_to(&self, state: State, id: TypeId) -> State
+        ensures number { result.number ≡ state.number }
+        ensures rule { result.rule ≡ state.rule }
+        ensures inside { result.is_inside ≡ state.is_inside }
+        ensures found { (ids : List Id) → IsFoundAfter self.now state ids → IsFoundAfter self.now result (ids ++ id ∷ []) }
     {
-        let first = first_offset(state.found, origin);
+        match state.held {
+            Some(key) => self.narrowed_by(state, key, id),
+            None => State {
+                held: Some(id),
+                ..state
+            },
+        }
+    }
+
+    // The same, where this type is held back: they are the key and the value of an entry, or the first of them is looked for.
+    fn narrowed_by(&self, state: State, key: TypeId, id: TypeId) -> State
+        requires { state.held ≡ Some key }
+        ensures number { result.number ≡ state.number }
+        ensures rule { result.rule ≡ state.rule }
+        ensures inside { result.is_inside ≡ state.is_inside }
+        ensures found { (ids : List Id) → IsFoundAfter self.now state ids → IsFoundAfter self.now result (ids ++ id ∷ []) }
+    {
+        match self.value_in(state.number, state.found, key, id) {
+            Some(piece) => State {
+                found: Some(piece),
+                held: None,
+                ..state
+            },
+            None => State {
+                found: self.found_by(state.number, state.found, key),
+                held: Some(id),
+                ..state
+            },
+        }
+    }
+
+    // What is found last, where no type comes any more.
+    fn last_found(&self, state: State) -> Option<PieceAt>
+        ensures { (ids : List Id) → IsFoundAfter self.now state ids → LeadsIn self.now state.number None ids result }
+    {
+        match state.held {
+            Some(id) => self.found_by(state.number, state.found, id),
+            None => state.found,
+        }
+    }
+
+    // What is found last, once a type is looked for that is not the key of an entry whose value comes next.
+    fn found_by(&self, number: u32, found: Option<PieceAt>, id: TypeId) -> Option<PieceAt>
+        ensures { (ids : List Id) (to : Option Piece) → HasNoValueIn self.now number found id ids → LeadsIn self.now number result ids to → LeadsIn self.now number found (id ∷ ids) to }
+    {
+        match self.type_in(number, found, id) {
+            Some(piece) => Some(piece),
+            None => found,
+        }
+    }
+
+    // The first place in the rules of the name that is of this type, within what was found before.
+    fn type_in(&self, number: u32, found: Option<PieceAt>, id: TypeId) -> Option<PieceAt>
+        ensures some { IfSome result (IsTypeIn self.now number found id) }
+        ensures none { IfNone result ((a : Piece) → IsTypeIn self.now number found id a → ⊥) }
+    {
+        let origin = self.origin_of(id)?;
+        self.first_type(number, found, origin)
+    }
+
+    // The same of the value's type in an entry that has these types as its key and as its value.
+    fn value_in(
+        &self,
+        number: u32,
+        found: Option<PieceAt>,
+        key: TypeId,
+        id: TypeId,
+    ) -> Option<PieceAt>
+        ensures some { IfSome result (IsValueIn self.now number found key id) }
+        ensures none { IfNone result ((a : Piece) → IsValueIn self.now number found key id a → ⊥) }
+    {
+        let key = self.origin_of(key)?;
+        let origin = self.origin_of(id)?;
+        self.first_value(number, found, key, origin)
+    }
+
+    // The first place in the rules of the name that is of this, within what was found before.
+    fn first_type(&self, number: u32, found: Option<PieceAt>, origin: TypeOrigin) -> Option<PieceAt>
+        ensures some { IfSome result (λ a. IsOfOrigin self.now number origin a × IsInside found a) }
+        ensures none { IfNone result ((a : Piece) → IsOfOrigin self.now number origin a → IsInside found a → ⊥) }
+    {
         for piece in &self.pieces {
-            if self.is_next(*piece, state.number, origin) && piece.span.first >= first {
+            if self.is_next(*piece, number, found, origin) {
                 return Some(*piece);
             }
         }
         None
     }
 
-    fn is_next(&self, piece: PieceAt, number: u32, origin: TypeOrigin) -> bool
-        ensures is { IsTrue result ↔ (HasNumber self.now piece.rule number × (piece.origin ≡ origin)) }
+    // The same with this key.
+    fn first_value(
+        &self,
+        number: u32,
+        found: Option<PieceAt>,
+        key: TypeOrigin,
+        origin: TypeOrigin,
+    ) -> Option<PieceAt>
+        ensures some { IfSome result (λ a. IsOfOrigin self.now number origin a × IsInside found a × (a.key ≡ Some key)) }
+        ensures none { IfNone result ((a : Piece) → IsOfOrigin self.now number origin a → IsInside found a → a.key ≡ Some key → ⊥) }
     {
-        piece.origin == origin && self.is_named(piece.rule, number)
+        for piece in &self.pieces {
+            if self.is_next(*piece, number, found, origin) && has_key(*piece, key) {
+                return Some(*piece);
+            }
+        }
+        None
+    }
+
+    // Whether the place is of this, in a rule with this number, and within what was found before.
+    fn is_next(
+        &self,
+        piece: PieceAt,
+        number: u32,
+        found: Option<PieceAt>,
+        origin: TypeOrigin,
+    ) -> bool
+        ensures is { IsTrue result ↔ (HasNumber self.now piece.rule number × (piece.origin ≡ origin) × IsInside found piece) }
+    {
+        piece.origin == origin && self.is_named(piece.rule, number) && is_inside(found, piece)
     }
 
     // Whether the rule at this place has this number.
@@ -199,19 +299,23 @@ impl Sources {
     }
 }
 
-// From where to look for what is of this. The type of a member is behind its key, also where both are one type.
-fn first_offset(found: Option<PieceAt>, origin: TypeOrigin) -> usize
-    ensures { found ≡ None → result ≡ 0 }
+// Whether the place lies within what was found before.
+fn is_inside(found: Option<PieceAt>, piece: PieceAt) -> bool
+    ensures { IsTrue result ↔ IsInside found piece }
 {
     match found {
-        Some(piece) => {
-            if piece.origin == origin {
-                piece.span.end
-            } else {
-                piece.span.first
-            }
-        }
-        None => 0,
+        Some(outer) => outer.span.first <= piece.span.first && piece.span.end <= outer.span.end,
+        None => true,
+    }
+}
+
+// Whether it is the type of the value in an entry whose key is of this.
+fn has_key(piece: PieceAt, key: TypeOrigin) -> bool
+    ensures { IsTrue result ↔ (piece.key ≡ Some key) }
+{
+    match piece.key {
+        Some(own) => own == key,
+        None => false,
     }
 }
 
@@ -221,15 +325,6 @@ fn outside(state: State) -> State
 {
     State {
         is_inside: false,
-        ..state
-    }
-}
-
-fn with_piece(state: State, piece: PieceAt) -> State
-    ensures { result ≡ record state { found = Some piece } }
-{
-    State {
-        found: Some(piece),
         ..state
     }
 }

@@ -2,13 +2,13 @@
 
 ghost use Rattle.std.specs.Prelude.{OnOk, [], ◌∷◌};
 ghost use Rattle.tree_nodes.specs.Syntax.Syntax as S;
-ghost use Rattle.tree_nodes.specs.View.{view_type1, view_type2, view_types, view_value};
-ghost use Rattle.cddl_sources.specs.Pieces.{a_type, a_word, operand};
+ghost use Rattle.tree_nodes.specs.View.{view_key, view_type1, view_type2, view_types, view_value};
+ghost use Rattle.cddl_sources.specs.Pieces.{a_type, a_value, a_word, key_piece, operand};
 ghost use Rattle.cddl_sources.specs.Walk.{Adds, view_node};
 
 use crate::node::{Found, Node};
 use std::alloc::AllocError;
-use tree_nodes::{Leaf, Type1, Type2, Types, Value};
+use tree_nodes::{Leaf, MemberKey, Type1, Type2, Types, Value};
 
 pub(crate) fn push_choice<'t>(
     types: &'t Types,
@@ -58,6 +58,17 @@ pub(crate) fn push_word(
     ensures { OnOk result (Adds found.old.items found.new.items rule (λ read. a_word (read name) ∷ [])) }
 {
     push(Node::Word(name), rule, found)
+}
+
+pub(crate) fn push_value<'t>(
+    key: &'t MemberKey,
+    types: &'t Types,
+    rule: usize,
+    found: &mut Vec<Found<'t>>,
+) -> Result<(), AllocError>
+    ensures { OnOk result (Adds found.old.items found.new.items rule (λ read. a_value (key_piece (view_key read key.now)) (view_types read types.now) ∷ [])) }
+{
+    push(Node::Value(key, types), rule, found)
 }
 
 fn push<'t>(node: Node<'t>, rule: usize, found: &mut Vec<Found<'t>>) -> Result<(), AllocError>

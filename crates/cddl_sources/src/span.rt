@@ -42,6 +42,7 @@ pub(crate) fn node_span(tree: &Tree<'_>, node: Node<'_>) -> Span
             end: value_end(tree, &value),
         },
         Node::Word(leaf) => word_span(tree, leaf),
+        Node::Value(_, types) => types_span(tree, types),
     }
 }
 

@@ -8,7 +8,7 @@ ghost use Rattle.cddl_sources.specs.Pieces.{in_arguments, in_entry, in_group, in
 ghost use Rattle.cddl_sources.specs.Walk.{Adds, entry_pieces, further_pieces, view_found};
 
 use crate::node::Found;
-use crate::push::{push_choice, push_literal, push_operand, push_operation, push_word};
+use crate::push::{push_choice, push_literal, push_operand, push_operation, push_value, push_word};
 use std::alloc::{AllocError, Global};
 use tree_nodes::{
     Entry, Further, GenericArg, Group, GrpEnt, MemberKey, Ref, Rule, Tree, Type1, Type2, Types,
@@ -178,6 +178,7 @@ fn add_grpent<'t>(
         GrpEnt::Typed { types, .. } => add_types(types, rule, found),
         GrpEnt::Keyed { key, types, .. } => {
             add_key(key, rule, found)?;
+            push_value(key, types, rule, found)?;
             add_types(types, rule, found)
         }
         GrpEnt::Grouped { group, .. } => add_group(group, rule, found),

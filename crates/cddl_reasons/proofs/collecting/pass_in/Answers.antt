@@ -6,7 +6,7 @@ use Rattle.cddl_reasons.proofs.collecting.pass_in.Goals as goal
 
 pub turns-init : goal.turns-init
 turns-init c = record {
-  opened = rw (c.root.ensures, c.item.ensures.same) at c.in_ok-run.ensures;
+  opened = rw (c.root.ensures, c.item-whole.ensures.same) at c.in_ok-run.ensures;
   found = rw c.new-found.ensures (All-nil (IsReason (language_of c.args.table.now) (root_question c.args.table.now c.args.item.now)));
 }
 

@@ -16,7 +16,7 @@ returns c = λ first cause at.
       next = _;
       opened = at;
       fails = open_replies (language_of c.args.table.now) at;
-      types = c.in_ok-push_type.ensures ∙ ap (λ ts. ts ++ type_of (question_view run.last.question)) (c.in_ok-types.ensures ∙ ap (λ os. types_of (asked_in os)) c.as_slice-below.ensures.value);
+      types = c.in_ok-push_type.ensures ∙ ap (λ ts. ts ++ type_of (question_view run.last.question)) (c.in_ok-types.ensures ∙ ap (λ os. types_of (asked_in os) (waits_in os)) c.as_slice-below.ensures.value);
       strings = c.in_ok-strings.ensures ∙ ap (λ os. strings_of (waits_in os)) c.as_slice-below.ensures.value;
       cause = cause;
     }

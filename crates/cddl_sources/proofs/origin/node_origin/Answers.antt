@@ -1,9 +1,9 @@
 use Rattle.std.proofs.Common.{◌≡◌, ap, sym, subst, ◌∙◌, Some}
 use Rattle.tree_nodes.specs.Syntax.Syntax as S
-use Rattle.tree_nodes.specs.View.{token_of, view_type1, view_type2, view_types, view_value}
+use Rattle.tree_nodes.specs.View.{token_of, view_key, view_type1, view_type2, view_types, view_value}
 use Rattle.table_making.specs.declared.origin.TypeOrigin.TheVariants as T
-use Rattle.cddl_sources.specs.Origins.{IsOriginOf, of_type, of_word}
-use Rattle.cddl_sources.specs.Pieces.{Piece, a_type, a_word, operand}
+use Rattle.cddl_sources.specs.Origins.{IsOriginOf, of_type, of_value, of_word}
+use Rattle.cddl_sources.specs.Pieces.{Piece, a_type, a_value, a_word, key_piece, operand}
 use Rattle.cddl_sources.specs.Walk.{view_node}
 use Rattle.cddl_sources.proofs.origin.node_origin.Goals as goal
 
@@ -36,3 +36,9 @@ returns-in_ok-add_text-in-Word-clause-origin c =
     let read = token_of c.args.tree.now in
     let e : view_node read c.args.node ≡ a_word (read c.in-Word.leaf) = simp c.in-Word.is in
     subst (λ (p : Piece). IsOriginOf c.add_text.new.self p (T.Word c.in_ok-add_text-in-Word.field-0)) (sym e) (of_word (c.in_ok-add_text-in-Word.ensures.there ∙ ap Some c.text_at.ensures))
+
+pub returns-in_ok-read_types-in-Value-clause-origin : goal.returns-in_ok-read_types-in-Value-clause-origin
+returns-in_ok-read_types-in-Value-clause-origin c =
+    let read = token_of c.args.tree.now in
+    let e : view_node read c.args.node ≡ a_value (key_piece (view_key read c.in-Value.field-0.now)) (view_types read c.in-Value.types.now) = simp c.in-Value.is in
+    subst (λ (p : Piece). IsOriginOf c.read_types-in-Value.new.terms p (T.Row c.in_ok-read_types-in-Value.field-0)) (sym e) (of_value c.in_ok-read_types-in-Value.ensures.term)

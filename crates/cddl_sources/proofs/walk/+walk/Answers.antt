@@ -104,9 +104,9 @@ pub add_grpent-returns-in-Typed : goal.add_grpent-returns-in-Typed
 add_grpent-returns-in-Typed t c =
     on_ok c.add_types.result _ _ (adds_as _ (λ read. typed_pieces read _ c.in-Typed.occur c.in-Typed.types c.in-Typed.is)) c.add_types.ensures
 
-pub add_grpent-returns-in_ok-add_key-in-Keyed : goal.add_grpent-returns-in_ok-add_key-in-Keyed
-add_grpent-returns-in_ok-add_key-in-Keyed t c =
-    on_ok c.add_types-in-Keyed.result _ _ (λ h. adds_as _ (λ read. keyed_pieces read _ c.in-Keyed.occur c.in-Keyed.key c.in-Keyed.types _ c.in-Keyed.is c.deref.ensures) (adds_both c.in_ok-add_key-in-Keyed.ensures h)) c.add_types-in-Keyed.ensures
+pub add_grpent-returns-in_ok-push_value-in-Keyed : goal.add_grpent-returns-in_ok-push_value-in-Keyed
+add_grpent-returns-in_ok-push_value-in-Keyed t c =
+    on_ok c.add_types-in-Keyed.result _ _ (λ h. adds_as _ (λ read. keyed_pieces read _ c.in-Keyed.occur c.in-Keyed.key c.in-Keyed.types _ _ c.in-Keyed.is c.deref.ensures c.deref-in-Keyed.ensures) (adds_both c.in_ok-add_key-in-Keyed.ensures (adds_both c.in_ok-push_value-in-Keyed.ensures h))) c.add_types-in-Keyed.ensures
 
 pub add_grpent-returns-in-Grouped : goal.add_grpent-returns-in-Grouped
 add_grpent-returns-in-Grouped t c =

@@ -4,8 +4,8 @@ use Rattle.lists.proofs.Lemmas.{none_in}
 use Rattle.table_nodes.specs.declared.nodes.TypeId.{TypeId}
 use Rattle.cddl_sources.specs.States.{IsStateAfter, IsStateOf}
 use Rattle.cddl_sources.specs.declared.place.State.{State}
-use Rattle.cddl_sources.proofs.Standing.{is_place, no_rule, none_then, some_then}
-use Rattle.cddl_sources.proofs.Stepping.{at_index, found_named, next_state}
+use Rattle.cddl_sources.proofs.Standing.{is_place, no_rule}
+use Rattle.cddl_sources.proofs.Stepping.{at_index, found_named, next_state, none_then, some_then}
 use Rattle.cddl_sources.proofs.sources.Sources.place.Goals as goal
 
 pub loop-id-init : goal.loop-id-init
@@ -20,13 +20,13 @@ pub returns-in-Some-clause-some : goal.returns-in-Some-clause-some
 returns-in-Some-clause-some c =
     let all = subst (λ (ids : List TypeId). IsStateOf c.args.self.now ids c.loop-id.state) (take_all c.loop-id.id-index c.args.chain.now c.loop-id-test.false) c.loop-id.invariant in
     let after : IsStateAfter c.args.self.now c.args.chain.now c.in-Some.state = subst (λ (o : Option State). IsStateOf c.args.self.now c.args.chain.now o) c.in-Some.is all in
-    some_then c.told.result _ _ (λ p t s table known. is_place s table c.args.self.now known c.args.chain.now c.in-Some.state p after t) c.told.ensures.some
+    some_then c.told.result _ _ (λ p t s table known. is_place s table c.args.self.now known c.args.chain.now c.in-Some.state c.last_found.result p c.last_found.ensures after t) c.told.ensures.some
 
 pub returns-in-Some-clause-none : goal.returns-in-Some-clause-none
 returns-in-Some-clause-none c =
     let all = subst (λ (ids : List TypeId). IsStateOf c.args.self.now ids c.loop-id.state) (take_all c.loop-id.id-index c.args.chain.now c.loop-id-test.false) c.loop-id.invariant in
     let after : IsStateAfter c.args.self.now c.args.chain.now c.in-Some.state = subst (λ (o : Option State). IsStateOf c.args.self.now c.args.chain.now o) c.in-Some.is all in
-    none_then c.told.result _ _ (λ f s table known m h. absurd (f after.rule (found_named c.args.self.now c.in-Some.state.number after.inside c.in-Some.state.found after.found))) c.told.ensures.none
+    none_then c.told.result _ _ (λ f s table known m h. absurd (f after.rule (found_named c.args.self.now c.in-Some.state.number after.inside c.last_found.result (c.last_found.ensures after.inside after.found)))) c.told.ensures.none
 
 pub returns-in-None-clause-none : goal.returns-in-None-clause-none
 returns-in-None-clause-none c =
