@@ -1,5 +1,5 @@
 -- The text of many lines.
-use Rattle.std.proofs.Common.{◌≡◌, ℕ, zero, suc, ◌+◌, ◌-◌, List, [], ◌∷◌, ◌++◌, drop, flat_map, length, length-drop, map, min, take, ap, refl, sym, ◌∙◌, arith}
+use Rattle.std.proofs.Common.{◌≡◌, ℕ, zero, suc, ◌+◌, ◌-◌, List, [], ◌∷◌, ◌++◌, drop, flat_map, length, length-drop, map, min, take, ap, refl, ◌∙◌, arith}
 use Rattle.std.proofs.lemmas.List.{length-map, take_min}
 use Rattle.mismatch_words.specs.Lines.{told_lines}
 use Rattle.mismatch_words.specs.Reasons.{more_line}

@@ -1,4 +1,5 @@
 pub mod Causes
+pub mod Floats
 pub mod Lines
 pub mod Paths
 pub mod Reasons

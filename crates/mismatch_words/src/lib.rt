@@ -3,6 +3,7 @@
 #![tactic(auto)]
 
 mod causes;
+mod floats;
 mod lines;
 mod paths;
 mod reasons;
@@ -10,8 +11,9 @@ mod types;
 mod values;
 
 pub use crate::causes::Cause;
+pub use crate::floats::number_words;
 pub use crate::lines::{push_line, told_lines};
 pub use crate::paths::path_words;
 pub use crate::reasons::{Reason, reason_line};
 pub use crate::types::type_words;
-pub use crate::values::value_words;
+pub use crate::values::{shown_value, value_words};

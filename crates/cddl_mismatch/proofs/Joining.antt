@@ -1,0 +1,49 @@
+-- The lines of reasons, one by one.
+use Rattle.std.proofs.Common.{◌≡◌, ℕ, zero, suc, ◌+◌, List, [], ◌∷◌, ◌++◌, take, Option, Some, None, IfNone, IfSome, slice_get, refl, sym, ap, subst, ◌∙◌, arith}
+use Rattle.std.specs.List.{Contains}
+use Rattle.cbor_data.specs.Value.{Value}
+use Rattle.cddl_token.specs.declared.Token.{Token}
+use Rattle.table_nodes.specs.declared.nodes.TypeId.{TypeId}
+use Rattle.cddl_sources.specs.declared.place.Place.{Place}
+use Rattle.cddl_sources.specs.declared.sources.Sources.{Sources}
+use Rattle.cddl_reasons.specs.declared.causes.Reason.{Reason}
+use Rattle.mismatch_words.specs.Lines.{with_line}
+use Rattle.mismatch_words.specs.Reasons.{line_text}
+use Rattle.mismatch_words.specs.declared.causes.Cause.{Cause}
+use Rattle.cddl_mismatch.specs.Causes.{chain_of, told_cause}
+use Rattle.cddl_mismatch.specs.Lines.{IsLineAt}
+use Rattle.cddl_mismatch.specs.Places.{ArePlaceWords, outer_place}
+use Rattle.cddl_mismatch.specs.Explained.{AreLines, IsPlaceOf, IsPlaced, IsToldOf, nowhere, one_more}
+
+abbrev value_or : {A : Type 0} → A → Option A → A
+value_or d (Some x) = x
+value_or d None = d
+
+never_some : {A : Type 0} (x : A) → None ≡ Some x → ⊥
+never_some x e = cc
+
+take_suc : {A : Type 0} (xs : List A) (i : ℕ) (x : A) → slice_get xs i ≡ Some x → take (suc i) xs ≡ take i xs ++ x ∷ []
+take_suc [] i x e = absurd (never_some x e)
+take_suc (y ∷ xs) zero x e = ap (λ o. value_or y o ∷ []) e
+take_suc (y ∷ xs) (suc i) x e = ap (λ zs. y ∷ zs) (take_suc xs i x e)
+
+pub take_one_more : {A : Type 0} (xs : List A) (i : ℕ) (x : A) → slice_get xs i ≡ Some x → take (i + 1) xs ≡ take i xs ++ x ∷ []
+take_one_more xs i x e = let on : i + 1 ≡ suc i = omega arith in ap (λ n. take n xs) on ∙ take_suc xs i x e
+
+-- where the types stand, or that they are of no rule
+pub placed : (x : Sources) (chain : List TypeId) (p : Option Place) → IfSome p (λ q. IsPlaceOf x chain (Some q)) → IfNone p (IsPlaceOf x chain None) → IsPlaceOf x chain p
+placed x chain (Some p) some none = some
+placed x chain None some none = none
+
+-- the line tells what is found at the place in the whole item
+pub told_there : (text : List ℕ) (tokens : List Token) (file : List ℕ) (p : Place) (x : Value) (r : Reason) (found : List ℕ) (cause : Cause) (line : List ℕ) → ArePlaceWords x (outer_place r.strings.items r.place) found → cause ≡ told_cause r.cause → IsLineAt text tokens file p found cause line → IsToldOf text tokens file p x r line
+told_there text tokens file p x r found cause line words k h = (found, words, subst (λ c. IsLineAt text tokens file p found c line) k h)
+
+pub one_line_more : (text : List ℕ) (tokens : List Token) (file : List ℕ) (sources : Sources) (x : Value) (rs : List Reason) (lines new : List (List ℕ)) (r : Reason) (p : Place) (line : List ℕ) → new ≡ with_line lines line → IsPlaced sources r (Some p) → IsToldOf text tokens file p x r line → AreLines text tokens file sources x rs lines → AreLines text tokens file sources x (rs ++ r ∷ []) new
+one_line_more text tokens file sources x rs lines new r p line e placed told h = subst (λ ls. AreLines text tokens file sources x (rs ++ r ∷ []) ls) (sym e) (one_more h r p line placed told)
+
+pub no_line_more : (text : List ℕ) (tokens : List Token) (file : List ℕ) (sources : Sources) (x : Value) (rs : List Reason) (lines : List (List ℕ)) (r : Reason) → IsPlaced sources r None → AreLines text tokens file sources x rs lines → AreLines text tokens file sources x (rs ++ r ∷ []) lines
+no_line_more text tokens file sources x rs lines r none h = nowhere h r none
+
+pub same_line : (file found : List ℕ) (line column : ℕ) (given rule : List ℕ) (cause : Cause) (shown written told : List ℕ) → told ≡ line_text file found line column given cause shown → given ≡ rule → shown ≡ written → told ≡ line_text file found line column rule cause written
+same_line file found line column given rule cause shown written told h e k = h ∙ (ap (λ r. line_text file found line column r cause shown) e ∙ ap (λ w. line_text file found line column rule cause w) k)

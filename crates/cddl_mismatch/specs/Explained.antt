@@ -1,0 +1,85 @@
+-- What is told of an item that does not match the specification that a text is.
+use Rattle.std.specs.Prelude.{◌≡◌, ℕ, List, [], ◌∷◌, ◌++◌, Option, Some, None}
+use Rattle.std.specs.List.{Contains}
+use Rattle.cbor_data.specs.Value.{Value}
+use Rattle.cddl_token.specs.declared.Refusal.{Refusal}
+use Rattle.cddl_token.specs.declared.Refusal.TheVariants as RefusalV
+use Rattle.cddl_token.specs.declared.Token.{Token}
+use Rattle.tree_nodes.specs.Syntax.Answers.{IsTreeOf}
+use Rattle.tree_nodes.specs.View.{view}
+use Rattle.cddl_language.specs.Reading.{rules_of}
+use Rattle.cddl_language.specs.Terms.{Text}
+use Rattle.check_text.specs.declared.fault.Fault.{Fault}
+use Rattle.cddl_check.specs.Outcome.{IsChecked}
+use Rattle.cddl_check.specs.Spec.{Checked}
+use Rattle.cddl_check.specs.Text.{AreTokensOf, IsWrongText}
+use Rattle.table_making.specs.Basis.{Sense}
+use Rattle.table_making.specs.Nodes.{IsNameOfType}
+use Rattle.table_nodes.specs.declared.nodes.TypeId.{TypeId}
+use Rattle.table_nodes.specs.declared.table.Table.{Table}
+use Rattle.cddl_table.specs.Text.{IsTableOf}
+use Rattle.cddl_sources.specs.Places.{IsOfNoRule, IsPlace}
+use Rattle.cddl_sources.specs.Sources.{AreSources, AreSourcesOf}
+use Rattle.cddl_sources.specs.declared.place.Place.{Place}
+use Rattle.cddl_sources.specs.declared.sources.Sources.{Sources}
+use Rattle.cddl_reasons.specs.Told.{AreReasons, HasNone}
+use Rattle.cddl_reasons.specs.declared.causes.Reason.{Reason}
+use Rattle.cddl_reasons.specs.declared.causes.Reasons.{Reasons}
+use Rattle.mismatch_words.specs.Lines.{told_lines, with_line}
+use Rattle.cddl_mismatch.specs.Causes.{chain_of, told_cause}
+use Rattle.cddl_mismatch.specs.Lines.{IsLineAt}
+use Rattle.cddl_mismatch.specs.Places.{ArePlaceWords, outer_place}
+use Rattle.cddl_mismatch.specs.declared.reasons.TheConstants.{MOST}
+
+-- The place is that of the last of these types that stands in the text. Nothing is told where they are of no rule.
+abbrev pub IsPlaceOf : Sources → List TypeId → Option Place → Type 0
+IsPlaceOf x chain (Some p) = (s : Sense) (table : Table) (known : AreSources s table x) → IsPlace (rules_of s.tree) (IsNameOfType s known.terms known.nodes) chain p
+IsPlaceOf x chain None = (s : Sense) (table : Table) (known : AreSources s table x) → (m : TypeId) → Contains chain m → IsOfNoRule (rules_of s.tree) (IsNameOfType s known.terms known.nodes) m
+
+abbrev pub IsPlaced : Sources → Reason → Option Place → Type 0
+IsPlaced x r p = IsPlaceOf x (chain_of r) p
+
+module _ (text : List ℕ) (tokens : List Token) (file : List ℕ) where
+  -- The line tells the place and what is there, where the type stands, and what is wrong.
+  abbrev pub IsToldOf : Place → Value → Reason → List ℕ → Type 0
+  IsToldOf p x r line = (found : List ℕ) × ArePlaceWords x (outer_place r.strings.items r.place) found × IsLineAt text tokens file p found (told_cause r.cause) line
+
+  -- The lines of these reasons, in order: one for each whose types stand in the text, but for one that is the same as the last.
+  pub data AreLines (sources : Sources) (x : Value) : List Reason → List (List ℕ) → Type 0 where
+    no_reason : AreLines sources x [] []
+    one_more : {rs : List Reason} {lines : List (List ℕ)} → AreLines sources x rs lines → (r : Reason) (p : Place) (line : List ℕ) → IsPlaced sources r (Some p) → IsToldOf p x r line → AreLines sources x (rs ++ r ∷ []) (with_line lines line)
+    nowhere : {rs : List Reason} {lines : List (List ℕ)} → AreLines sources x rs lines → (r : Reason) → IsPlaced sources r None → AreLines sources x (rs ++ r ∷ []) lines
+
+  -- the first lines, and how many more there are, with the reasons that have none
+  pub record AreTold (sources : Sources) (x : Value) (reasons : Reasons) (told : List ℕ) : Type 0 where
+    pub lines : List (List ℕ)
+    pub are_lines : AreLines sources x reasons.list.items lines
+    pub is : told ≡ told_lines lines reasons.more
+
+  -- By a table: of reasons why it says no, or nothing, where it says yes or the steps do not tell.
+  pub data IsToldBy (table : Table) (sources : Sources) (x : Value) (steps : ℕ) (told : List ℕ) : Type 0 where
+    no_reasons : HasNone table x steps → told ≡ [] → IsToldBy table sources x steps told
+    reasons : (rs : Reasons) → AreReasons table x steps MOST rs → AreTold sources x rs told → IsToldBy table sources x steps told
+
+  -- by the table of a specification, with where its types stand in the text
+  pub record IsToldFrom (spec : Checked) (x : Value) (steps : ℕ) (told : List ℕ) : Type 0 where
+    pub table : Table
+    pub sources : Sources
+    pub is_table : IsTableOf spec table
+    pub are_sources : AreSourcesOf spec table sources
+    pub is_told : IsToldBy table sources x steps told
+
+-- The specification is that of the tokens, and nothing is wrong with it.
+pub record IsReadAs (tokens : List Token) (root : Option Text) (spec : Checked) : Type 0 where
+  pub tree : IsTreeOf (view spec.tree) tokens
+  pub checked : IsChecked (view spec.tree) root spec.root
+
+-- Of a text that is refused nothing is told; where memory was refused there is no answer.
+abbrev pub IsUntold : Refusal → List ℕ → Type 0
+IsUntold (RefusalV.At code at) told = told ≡ []
+IsUntold RefusalV.Memory told = ⊥
+
+-- What is told of the text and the item: nothing where the text is refused, and else what its specification tells.
+pub data IsExplainedMismatch (text : List ℕ) (root : Option (List ℕ)) (file : List ℕ) (x : Value) (steps : ℕ) (told : List ℕ) : Type 0 where
+  refused : (f : Fault) → IsWrongText text root f → told ≡ [] → IsExplainedMismatch text root file x steps told
+  explained : (tokens : List Token) (spec : Checked) → AreTokensOf tokens text → IsReadAs tokens root spec → IsToldFrom text tokens file spec x steps told → IsExplainedMismatch text root file x steps told

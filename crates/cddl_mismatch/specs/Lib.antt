@@ -1,0 +1,4 @@
+pub mod Causes
+pub mod Explained
+pub mod Lines
+pub mod Places

@@ -1,0 +1,65 @@
+//! What a reason says, as it is told.
+
+ghost use Rattle.std.specs.Prelude.{◌≡◌, ◌++◌, IfOk};
+ghost use Rattle.cddl_mismatch.specs.Causes.{chain_of, told_cause, type_in};
+
+use cddl_reasons::{Cause, Reason};
+use mismatch_words::Cause as Told;
+use std::alloc::{AllocError, Global};
+use table_nodes::{Content, TypeId};
+
+// The cause, without the types that it names.
+pub(crate) fn told_cause(cause: Cause) -> Told
+    ensures { result ≡ told_cause cause }
+{
+    match cause {
+        Cause::Value => Told::Value,
+        Cause::Missing { .. } => Told::MemberMissing,
+        Cause::TooMuch => Told::MemberTooMuch,
+        Cause::Stray => Told::PairStray,
+        Cause::Few { count, least, .. } => Told::KeyTooFew { count, least },
+        Cause::Many { count, most, .. } => Told::KeyTooMany { count, most },
+        Cause::NothingHeld { content } => nothing_held(content),
+    }
+}
+
+fn nothing_held(content: Content) -> Told
+    ensures { result ≡ told_cause (Cause.NothingHeld content) }
+{
+    match content {
+        Content::OneItem => Told::NoItem,
+        Content::Sequence => Told::NoSequence,
+    }
+}
+
+// The types that led to what the reason is about: those that were open, and the member's or the key's, where the cause has one.
+pub(crate) fn chain_of(alloc: Global, reason: &Reason) -> Result<Vec<TypeId>, AllocError>
+    ensures { IfOk result (λ chain. chain.items ≡ chain_of reason.now) }
+{
+    let mut chain = Vec::from_slice(alloc, &reason.types)?;
+    push_type(&mut chain, reason.cause)?;
+    Ok(chain)
+}
+
+fn push_type(chain: &mut Vec<TypeId>, cause: Cause) -> Result<(), AllocError>
+    ensures { IfOk result (λ _. chain.new.items ≡ chain.old.items ++ type_in cause) }
+{
+    match cause {
+        Cause::Missing { member } => {
+            chain.push(member)?;
+            return Ok(());
+        }
+        Cause::Few { key, .. } => {
+            chain.push(key)?;
+            return Ok(());
+        }
+        Cause::Many { key, .. } => {
+            chain.push(key)?;
+            return Ok(());
+        }
+        Cause::Value => return Ok(()),
+        Cause::TooMuch => return Ok(()),
+        Cause::Stray => return Ok(()),
+        Cause::NothingHeld { .. } => return Ok(()),
+    }
+}

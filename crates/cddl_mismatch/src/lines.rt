@@ -1,0 +1,54 @@
+//! The line of a reason whose type stands at a place of the text.
+
+ghost use Rattle.std.specs.Prelude.{IfOk, string_bytes};
+ghost use Rattle.cddl_mismatch.specs.Lines.{IsLineAt, IsPartOf};
+
+use cddl_sources::{Place, Span};
+use cddl_token::Token;
+use mismatch_words::{Cause, Reason, reason_line, type_words};
+use std::alloc::{AllocError, Global};
+use text_position::position_of;
+
+/// The text of a specification, with its tokens, and the name that it goes by.
+#[derive(Clone, Copy)]
+pub(crate) struct Source<'s> {
+    pub(crate) text: &'s [u8],
+    pub(crate) tokens: &'s [Token<'s>],
+    pub(crate) file: &'s str,
+}
+
+// The line for what was found, where the type stands at this place.
+pub(crate) fn line_at(
+    alloc: Global,
+    source: Source<'_>,
+    place: Place,
+    found: &str,
+    cause: Cause,
+) -> Result<String, AllocError>
+    ensures { IfOk result (λ line. IsLineAt source.entry.text.now source.entry.tokens.now source.entry.file.now place found.now cause (string_bytes line)) }
+{
+    let rule = part_of(alloc, source.text, place.name)?;
+    let written = type_words(alloc, source.tokens, place.types.first, place.types.end)?;
+    let position = position_of(source.text, place.types.first);
+    reason_line(
+        alloc,
+        source.file,
+        Reason {
+            found,
+            position,
+            rule: rule.as_str(),
+            cause,
+            written: written.as_str(),
+        },
+    )
+}
+
+// What stands in a part of the text.
+fn part_of(alloc: Global, text: &[u8], part: Span) -> Result<String, AllocError>
+    ensures { IfOk result (λ words. IsPartOf text.now part (string_bytes words)) }
+{
+    match text.get(part.first..part.end) {
+        Some(bytes) => String::from_utf8_lossy(alloc, bytes),
+        None => Ok(String::new(alloc)),
+    }
+}

@@ -1,0 +1,113 @@
+//! The lines of reasons.
+
+ghost use Rattle.std.specs.Prelude.{◌≡◌, ◌<◌, ◌++◌, ◌∷◌, [], List, IfOk, Some, length, map, slice_get, string_bytes};
+ghost use Rattle.cddl_reasons.specs.declared.causes.Reason.{Reason as AnyReason};
+ghost use Rattle.cddl_mismatch.specs.Explained.{AreLines, AreTold, IsPlaced, IsToldOf};
+
+use crate::causes::{chain_of, told_cause};
+use crate::lines::{Source, line_at};
+use crate::places::{outer_place, place_words};
+use cbor_item::Sound;
+use cddl_reasons::{Reason, Reasons};
+use cddl_sources::{Place, Sources};
+use mismatch_words::{push_line, told_lines};
+use std::alloc::{AllocError, Global};
+
+// What is told of these reasons.
+pub(crate) fn told_of(
+    alloc: Global,
+    source: Source<'_>,
+    sources: &Sources,
+    item: &Sound,
+    reasons: &Reasons,
+) -> Result<String, AllocError>
+    ensures { IfOk result (λ told. AreTold source.entry.text.now source.entry.tokens.now source.entry.file.now sources.now item.now reasons.now (string_bytes told)) }
+{
+    let lines = lines_of(alloc, source, sources, item, &reasons.list)?;
+    told_lines(alloc, &lines, reasons.more)
+}
+
+// The lines of these reasons, in order.
+fn lines_of(
+    alloc: Global,
+    source: Source<'_>,
+    sources: &Sources,
+    item: &Sound,
+    reasons: &[Reason],
+) -> Result<Vec<String>, AllocError>
+    ensures { IfOk result (λ lines. AreLines source.entry.text.now source.entry.tokens.now source.entry.file.now sources.now item.now reasons.now (map string_bytes lines.items)) }
+{
+    let mut lines = Vec::new(alloc);
+    'reason: for k in 0..reasons.len() {
+        add_line(
+            alloc,
+            source,
+            sources,
+            item,
+            reason_at(reasons, k),
+            &mut lines,
+        )?;
+    }
+    Ok(lines)
+}
+
+// The reason at this index.
+fn reason_at(reasons: &[Reason], index: usize) -> &Reason
+    requires { index < length reasons.now }
+    ensures { slice_get reasons.now index ≡ Some result.now }
+{
+    match reasons.get(index) {
+        Some(reason) => reason,
+        None => unreachable!(),
+    }
+}
+
+// Puts the line of one reason more behind others, if its types stand anywhere.
+fn add_line(
+    alloc: Global,
+    source: Source<'_>,
+    sources: &Sources,
+    item: &Sound,
+    reason: &Reason,
+    lines: &mut Vec<String>,
+) -> Result<(), AllocError>
+    ensures { IfOk result (λ _. (before : List AnyReason) → AreLines source.entry.text.now source.entry.tokens.now source.entry.file.now sources.now item.now before (map string_bytes lines.old.items) → AreLines source.entry.text.now source.entry.tokens.now source.entry.file.now sources.now item.now (before ++ reason.now ∷ []) (map string_bytes lines.new.items)) }
+{
+    match place_of(alloc, sources, reason)? {
+        Some(place) => {
+            let line = line_of(alloc, source, place, item, reason)?;
+            push_line(lines, line)?;
+            return Ok(());
+        }
+        None => return Ok(()),
+    }
+}
+
+// Where the last type of a reason stands.
+fn place_of(alloc: Global, sources: &Sources, reason: &Reason) -> Result<Option<Place>, AllocError>
+    ensures { IfOk result (λ place. IsPlaced sources.now reason.now place) }
+{
+    let chain = chain_of(alloc, reason)?;
+    Ok(sources.place(&chain))
+}
+
+// The line of a reason whose last type stands at this place.
+fn line_of(
+    alloc: Global,
+    source: Source<'_>,
+    place: Place,
+    item: &Sound,
+    reason: &Reason,
+) -> Result<String, AllocError>
+    ensures { IfOk result (λ line. IsToldOf source.entry.text.now source.entry.tokens.now source.entry.file.now place item.now reason.now (string_bytes line)) }
+{
+    let at = outer_place(&reason.strings, reason.place);
+    let found = place_words(alloc, item.item(), at)?;
+    line_at(
+        alloc,
+        source,
+        place,
+        found.as_str(),
+        told_cause(reason.cause),
+    )
+}
