@@ -3,3 +3,4 @@ pub mod Deciding
 pub mod Handing
 pub mod Rereading
 pub mod Telling
+pub mod Texts

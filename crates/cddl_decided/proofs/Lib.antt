@@ -5,6 +5,7 @@ mod Emptiness
 mod Founding
 mod Names
 mod OfBounds
+mod OfReadings
 mod OfTokens
 mod Outcomes
 mod Parts

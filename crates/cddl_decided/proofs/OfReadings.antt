@@ -1,0 +1,4 @@
+pub mod Faults
+pub mod Moving
+pub mod Terms
+pub mod Tokens
