@@ -13,10 +13,10 @@ OF_ITSELF = {"--help", "-h", "--version", "-V"}
 
 def rows_for_package(only=""):
     """The rows whose name has the text, each in one way: the library's callers read a stream whole before they write. So a row is left out
-    that wants items from before memory is short, or that is told more than the first fault of a specification. They show no progress,
-    and have no option for it."""
+    that wants items from before memory is short, or that is told more than the first fault of a specification, or why an item does not
+    match. They show no progress, and have no option for it."""
     with open(os.path.join(TOP, "tests", "rows.json"), encoding="utf-8") as file:
-        rows = [it for it in json.load(file) if only in it["name"] and not ("memory" in it and "items" in it) and "--no-progress" not in it["words"] and not tells_further_faults(it)]
+        rows = [it for it in json.load(file) if only in it["name"] and not ("memory" in it and "items" in it) and "--no-progress" not in it["words"] and not tells_further_faults(it) and not tells_reasons(it)]
     return [{**it, "ways": it.get("ways", ["whole"])[:1], "tells_at_once": False} for it in rows]
 
 
@@ -35,6 +35,13 @@ def tells_further_faults(row):
     """Whether more faults of a specification are told than the first: the library tells that alone."""
     said = row.get("stderr", "")
     return isinstance(said, list) and sum(1 for it in said if PLACE.fullmatch(it)) > 1
+
+
+def tells_reasons(row):
+    """Whether it is told why an item does not match, or would be if standard error took it: the library does not tell that. 'rewrite' has
+    the line of the end there too."""
+    told = len(row.get("stderr") or []) > ("rewrite" in row["words"]) or "stderr_to" in row
+    return "--explain" in row["words"] and row.get("status") == 1 and told
 
 
 def needs_devices(row):

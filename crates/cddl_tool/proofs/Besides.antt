@@ -1,5 +1,5 @@
 -- What is told of the faults of one code more.
-use Rattle.std.proofs.Common.{◌≡◌, ℕ, zero, suc, ◌+◌, List, [], ◌∷◌, ◌++◌, take, Option, Some, None, slice_get, refl, sym, ap, subst, ◌∙◌, arith}
+use Rattle.std.proofs.Common.{◌≡◌, ℕ, zero, suc, ◌+◌, List, [], ◌∷◌, ◌++◌, take, Option, Some, None, slice_get, sym, ap, subst, ◌∙◌, arith}
 use Rattle.cddl_token.specs.declared.Refusal.TheVariants.{At}
 use Rattle.check_text.specs.declared.fault.Fault.{Fault}
 use Rattle.check_faults.specs.declared.listing.Listed.{Listed}

@@ -3,3 +3,4 @@ pub mod Refusing
 pub mod Telling
 mod Fronts
 mod Besides
+mod Reasoning

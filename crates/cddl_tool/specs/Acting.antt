@@ -129,11 +129,6 @@ fault_line (ReadFailed items) = read_failed_line items
 fault_line (WriteFailed bytes) = write_failed_line bytes
 fault_line (Memory items) = memory_line
 
--- The end was told, and the status is its own; or there was no memory for its line, and that was told.
-pub data IsTold (task : Task) (end : End) (rejected : Option Value) (error : Change) : ℕ → Type 0 where
-  told : IsSaid error (told_of task end rejected) → IsTold task end rejected error (status_for end)
-  no_line : task ≡ Rewrite → IsSaid error memory_line → IsTold task end rejected error BROKEN
-
 -- The whole output of the stream went out, its end was told, and the status is that of its end.
 pub record IsAnswered (o : Options) (judge : Judge) (stream : List ℕ) (output error : Change) (status : ℕ) : Type 0 where
   pub end : End

@@ -1,5 +1,5 @@
 -- What a terminal shows of how far a run is.
-use Rattle.std.specs.Prelude.{◌≡◌, ℕ, ◌*◌, ◌/◌, Bool, true, false, ◌&&◌, not, nat_lt, nat_le, if◌then◌else◌, List, [], ◌∷◌, ◌++◌, Option, Some, None, option_and_then, codes, decimal}
+use Rattle.std.specs.Prelude.{ℕ, ◌*◌, ◌/◌, Bool, true, false, ◌&&◌, not, nat_lt, nat_le, if◌then◌else◌, List, [], ◌∷◌, ◌++◌, Option, Some, None, option_and_then, codes, decimal}
 use Rattle.command_line.specs.declared.choice.Options.{Options}
 use Rattle.command_line.specs.declared.choice.Task.{Task}
 use Rattle.command_line.specs.declared.choice.Task.TheVariants.{Validate, Rewrite}

@@ -1,29 +1,30 @@
 //! What the program does with a specification and a stream.
 
-ghost use Rattle.std.specs.Prelude.{◌≡◌, ◌≢◌, ◌⊎◌, ℕ, List, Option, IfOk, IfErr, IfSome, OnOk, option_copied, option_map, string_bytes};
+ghost use Rattle.std.specs.Prelude.{◌≡◌, ◌≢◌, ◌⊎◌, ℕ, List, None, Option, IfOk, IfErr, IfSome, OnOk, option_map, string_bytes};
 ghost use Rattle.item_nodes.specs.Counted.{device_of};
 ghost use Rattle.cddl_check.specs.Text.{IsUnreadText};
 ghost use Rattle.cddl_table.specs.Text.{IsTabledText};
 ghost use Rattle.seq_run.specs.Judge.{judge_of};
-ghost use Rattle.seq_run.specs.Report.{IsShown};
 ghost use Rattle.seq_run.specs.Running.{change_of};
 ghost use Rattle.command_line.specs.Lines.{memory_line};
 ghost use Rattle.cddl_tool.specs.Further.{IsReason};
-ghost use Rattle.cddl_tool.specs.Acting.{fault_line, limits_of, mode_of, refusal_line, report_mode_of, rewrite_mode_of, named_file, specification_of, status_for, wanted_root, wanted_word, HasNoStream, IsAcceptance, IsAnswered, IsBroken, IsExplained, IsSaid, IsTold, IsToldRefusal, IsTurnedDown};
+ghost use Rattle.cddl_tool.specs.Acting.{fault_line, limits_of, mode_of, refusal_line, report_mode_of, rewrite_mode_of, named_file, specification_of, wanted_root, wanted_word, HasNoStream, IsAcceptance, IsAnswered, IsBroken, IsExplained, IsSaid, IsToldRefusal, IsTurnedDown};
+ghost use Rattle.cddl_tool.specs.Reasons.{IsAnsweredWith, IsBrokenWith};
 
+use crate::ending::tell_end;
 use crate::further::explained;
 use crate::progress::{Screen, run_shown};
-use cbor_item::{Counted, Sound, write_bytes};
+use cbor_item::{Counted, write_bytes};
 use cbor_read::Limits;
 use cddl_explain::{explanation, subject_of};
 use cddl_table::read_specification;
 use cddl_token::Refusal;
 use check_text::Fault;
 use command_line::{
-    BROKEN, FAILED, Options, REFUSED, Task, say, say_no_memory, say_read_failed, say_unexplained,
+    BROKEN, Options, REFUSED, Task, say, say_no_memory, say_read_failed, say_unexplained,
     say_write_failed,
 };
-use seq_run::{End, Mode, RunFault, Unwatched, end_line};
+use seq_run::{Mode, RunFault, Unwatched};
 use std::alloc::{AllocError, Global};
 use std::io::{Read, Write};
 use table_nodes::Table;
@@ -54,7 +55,7 @@ pub fn ready<E: Write>(
 }
 
 // The name of the root, if the options have one.
-fn root_of(options: &Options) -> Option<&str>
+pub(crate) fn root_of(options: &Options) -> Option<&str>
     ensures { option_map (λ r. r.now) result ≡ wanted_root options.now }
 {
     match &options.root {
@@ -64,7 +65,7 @@ fn root_of(options: &Options) -> Option<&str>
 }
 
 // The name of the file with the specification: an empty one where the task has none.
-fn file_of(options: &Options) -> &str
+pub(crate) fn file_of(options: &Options) -> &str
     ensures { result.now ≡ named_file options.now }
 {
     match &options.spec {
@@ -147,7 +148,7 @@ fn line_of(alloc: Global, fault: Fault) -> Result<String, AllocError>
 }
 
 // The text of a task's specification.
-fn specification_for(task: Task, spec: &[u8]) -> &[u8]
+pub(crate) fn specification_for(task: Task, spec: &[u8]) -> &[u8]
     ensures { result.now ≡ specification_of task spec.now }
 {
     match task {
@@ -167,7 +168,8 @@ fn specification_for(task: Task, spec: &[u8]) -> &[u8]
 /// - [`Task::Explain`]: writes what the code or the cause means to `out`, and reads nothing. The status is 0, and [`BROKEN`]
 ///   where there is no such code or cause, with a line on `err`.
 ///
-/// Where a read, a write or an allocation fails the status is [`BROKEN`], with a line on `err`.
+/// Where a read, a write or an allocation fails the status is [`BROKEN`], with a line on `err`. Why an item does not match is
+/// told by [`act_watched`](crate::act_watched) alone, which has the text.
 pub fn act<R: Read, W: Write, E: Write>(
     alloc: Global,
     options: &Options,
@@ -185,12 +187,36 @@ pub fn act<R: Read, W: Write, E: Write>(
     ensures broken { (HasNoStream options.now.task → ⊥) → result ≡ BROKEN → IsBroken options.now (judge_of table.now options.now.steps)
         (change_of R.remaining input.old input.new) (change_of W.contents out.old out.new) (change_of E.contents err.old err.new) }
 {
+    let mut screen = Unwatched;
+    perform(alloc, options, table, None, input, out, err, &mut screen)
+}
+
+// The same, while the screen is told how far it is with a stream. Why an item of it does not match is told from the text of
+// the specification, if that is given.
+pub(crate) fn perform<R: Read, W: Write, E: Write, P: Screen>(
+    alloc: Global,
+    options: &Options,
+    table: &Table,
+    text: Option<&[u8]>,
+    input: &mut Counted<R>,
+    out: &mut Counted<W>,
+    err: &mut Counted<E>,
+    screen: &mut P,
+) -> u8
+    ensures accepted { options.now.task ≡ Task.Check → IsAcceptance (change_of W.contents out.old out.new) (change_of E.contents err.old err.new) result }
+    ensures explained { options.now.task ≡ Task.Explain → IsExplained (wanted_word options.now) (change_of W.contents out.old out.new) (change_of E.contents err.old err.new) result }
+    ensures unread { HasNoStream options.now.task → input.new ≡ input.old }
+    ensures answered { (HasNoStream options.now.task → ⊥) → result ≢ BROKEN → IfSome (R.remaining (device_of input.old)) (λ stream.
+        IsAnsweredWith options.now (judge_of table.now options.now.steps) (option_map (λ t. t.now) text.entry) stream (change_of W.contents out.old out.new) (change_of E.contents err.old err.new) result) }
+    ensures quiet { options.now.task ≢ Task.Rewrite → option_map (λ t. t.now) text.entry ≡ None → result ≢ BROKEN → err.new ≡ err.old }
+    ensures broken { (HasNoStream options.now.task → ⊥) → result ≡ BROKEN → IsBrokenWith options.now (judge_of table.now options.now.steps) (option_map (λ t. t.now) text.entry)
+        (change_of R.remaining input.old input.new) (change_of W.contents out.old out.new) (change_of E.contents err.old err.new) }
+{
     match options.task {
         Task::Check => accept(out, err),
         Task::Explain => explain(alloc, word_of(options), out, err),
         Task::Validate | Task::Rewrite | Task::Show => {
-            let mut screen = Unwatched;
-            go_through(alloc, options, table, input, out, err, &mut screen)
+            go_through(alloc, options, table, text, input, out, err, screen)
         }
     }
 }
@@ -239,19 +265,20 @@ fn explain<W: Write, E: Write>(
 }
 
 // Goes through the stream, writes what the task asks for, and answers the status. How far it is is shown on the screen.
-pub(crate) fn go_through<R: Read, W: Write, E: Write, P: Screen>(
+fn go_through<R: Read, W: Write, E: Write, P: Screen>(
     alloc: Global,
     options: &Options,
     table: &Table,
+    text: Option<&[u8]>,
     input: &mut Counted<R>,
     out: &mut Counted<W>,
     err: &mut Counted<E>,
     screen: &mut P,
 ) -> u8
     ensures answered { result ≢ BROKEN → IfSome (R.remaining (device_of input.old)) (λ stream.
-        IsAnswered options.now (judge_of table.now options.now.steps) stream (change_of W.contents out.old out.new) (change_of E.contents err.old err.new) result) }
-    ensures quiet { options.now.task ≢ Task.Rewrite → result ≢ BROKEN → err.new ≡ err.old }
-    ensures broken { result ≡ BROKEN → IsBroken options.now (judge_of table.now options.now.steps)
+        IsAnsweredWith options.now (judge_of table.now options.now.steps) (option_map (λ t. t.now) text.entry) stream (change_of W.contents out.old out.new) (change_of E.contents err.old err.new) result) }
+    ensures quiet { options.now.task ≢ Task.Rewrite → option_map (λ t. t.now) text.entry ≡ None → result ≢ BROKEN → err.new ≡ err.old }
+    ensures broken { result ≡ BROKEN → IsBrokenWith options.now (judge_of table.now options.now.steps) (option_map (λ t. t.now) text.entry)
         (change_of R.remaining input.old input.new) (change_of W.contents out.old out.new) (change_of E.contents err.old err.new) }
 {
     let mode = mode_for(options);
@@ -267,7 +294,7 @@ pub(crate) fn go_through<R: Read, W: Write, E: Write, P: Screen>(
         screen,
     ) {
         Ok((end, rejected)) => {
-            let status = tell_end(alloc, options.task, &end, rejected.as_ref(), err);
+            let status = tell_end(alloc, options, text, &end, rejected.as_ref(), err);
             drop(rejected);
             status
         }
@@ -308,52 +335,6 @@ fn rewrite_mode(deterministic: bool) -> Mode
         Mode::Deterministic
     } else {
         Mode::Rewrite
-    }
-}
-
-// Says the end of a stream whose items were rewritten, and answers the status.
-fn tell_end<E: Write>(
-    alloc: Global,
-    task: Task,
-    end: &End,
-    rejected: Option<&Sound>,
-    err: &mut Counted<E>,
-) -> u8
-    requires { IsShown end.now (option_copied rejected) }
-    ensures told { IsTold task end.now (option_copied rejected.entry) (change_of E.contents err.old err.new) result }
-    ensures quiet { task ≢ Task.Rewrite → err.new ≡ err.old }
-{
-    match task {
-        Task::Rewrite => tell_line(alloc, end, rejected, err),
-        Task::Check | Task::Validate | Task::Show | Task::Explain => status_of(end),
-    }
-}
-
-// Says the line of the end, and answers the status.
-fn tell_line<E: Write>(
-    alloc: Global,
-    end: &End,
-    rejected: Option<&Sound>,
-    err: &mut Counted<E>,
-) -> u8
-    requires { IsShown end.now (option_copied rejected) }
-    ensures { IsTold Task.Rewrite end.now (option_copied rejected.entry) (change_of E.contents err.old err.new) result }
-{
-    match end_line(alloc, end, rejected) {
-        Ok(line) => {
-            say(line.as_slice(), err);
-            status_of(end)
-        }
-        Err(_) => say_no_memory(err),
-    }
-}
-
-fn status_of(end: &End) -> u8
-    ensures { result ≡ status_for end.now }
-{
-    match end {
-        End::Clean { .. } => 0,
-        End::Failed { .. } => FAILED,
     }
 }
 

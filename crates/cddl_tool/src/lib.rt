@@ -2,6 +2,7 @@
 #![tactic(auto)]
 
 mod acting;
+mod ending;
 mod further;
 mod laws;
 mod progress;

@@ -46,7 +46,7 @@ fn perform<E: Write>(rt: &HostRuntime, options: &Options, err: &mut Counted<E>) 
         Err(status) => return status,
     };
     match ready(rt.alloc(), options, text.as_slice(), err) {
-        Ok(table) => act_on_stream(rt, options, &table, err),
+        Ok(table) => act_on_stream(rt, options, text.as_slice(), &table, err),
         Err(status) => status,
     }
 }
@@ -70,16 +70,17 @@ fn text_of<E: Write>(
 fn act_on_stream<E: Write>(
     rt: &HostRuntime,
     options: &Options,
+    text: &[u8],
     table: &Table,
     err: &mut Counted<E>,
 ) -> u8 {
     let Some(name) = stream_name(options) else {
-        return act_on_device(rt, options, table, rt.stdin(), None, err);
+        return act_on_device(rt, options, text, table, rt.stdin(), None, err);
     };
     match fs::open(rt, name) {
         Ok(file) => {
             let size = size_of_file(&file);
-            act_on_device(rt, options, table, file, size, err)
+            act_on_device(rt, options, text, table, file, size, err)
         }
         Err(_) => say_unopened(rt.alloc(), name, err),
     }
@@ -100,6 +101,7 @@ fn size_of_file(file: &File) -> Option<u64> {
 fn act_on_device<R: Read + Drop, E: Write>(
     rt: &HostRuntime,
     options: &Options,
+    text: &[u8],
     table: &Table,
     device: R,
     size: Option<u64>,
@@ -116,6 +118,7 @@ fn act_on_device<R: Read + Drop, E: Write>(
     act_watched(
         rt.alloc(),
         options,
+        text,
         table,
         &mut input,
         &mut output,

@@ -363,7 +363,7 @@ fn with_judgement<'a>(alloc: Global, command: Command<'a>) -> Result<Command<'a>
         ))
 }
 
-// The command with what is taken with a specification: its file, the root, and whether a refusal is explained.
+// The command with what is taken with a specification: its file, the root, and whether a refusal or a mismatch is explained.
 fn with_specification<'a>(alloc: Global, command: Command<'a>) -> Result<Command<'a>, AllocError>
     requires { (out-Command command).has_globals ≡ false }
     ensures app { IfOk result (λ c. app_of c ≡ spec_app (app_of command.entry)) }
@@ -375,7 +375,7 @@ fn with_specification<'a>(alloc: Global, command: Command<'a>) -> Result<Command
         .arg(flag_arg(
             alloc,
             "explain",
-            "Says where in SPEC and why, where SPEC is refused",
+            "Says where in SPEC and why, where SPEC is refused or an item does not match",
         ))
 }
 

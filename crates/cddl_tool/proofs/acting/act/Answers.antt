@@ -1,30 +1,18 @@
-use Rattle.cddl_tool.proofs.Telling.{is_not_other, with_stream}
-use Rattle.std.proofs.Common.{inl, inr}
+use Rattle.std.proofs.Common.{refl}
+use Rattle.seq_run.specs.Judge.{judge_of}
+use Rattle.seq_run.specs.Running.{change_of}
+use Rattle.cddl_tool.proofs.Reasoning.{answered_alone, broken_alone}
 use Rattle.cddl_tool.proofs.acting.act.Goals as goal
 
-pub returns-in-Check-clause-answered : goal.returns-in-Check-clause-answered
-returns-in-Check-clause-answered g c = λ other. absurd (other (inl c.in-Check.is))
+pub returns-clause-answered : goal.returns-clause-answered
+returns-clause-answered g c = λ other h.
+    answered_alone c.args.options.now (judge_of c.args.table.now c.args.options.now.steps) (change_of g.W.Write.contents c.args.out.now c.perform.new.out) (change_of g.E.Write.contents c.args.err.now c.perform.new.err)
+    _ c.perform.result (c.perform.ensures.answered other h)
 
-pub returns-in-Check-clause-broken : goal.returns-in-Check-clause-broken
-returns-in-Check-clause-broken g c = λ other. absurd (other (inl c.in-Check.is))
+pub returns-clause-quiet : goal.returns-clause-quiet
+returns-clause-quiet g c = λ other h. c.perform.ensures.quiet other refl h
 
-pub returns-in-Check-clause-explained : goal.returns-in-Check-clause-explained
-returns-in-Check-clause-explained g c = λ other. absurd (is_not_other _ c.in-Check.is other)
-
-pub returns-in-Explain-clause-accepted : goal.returns-in-Explain-clause-accepted
-returns-in-Explain-clause-accepted g c = λ other. absurd (is_not_other _ other c.in-Explain.is)
-
-pub returns-in-Explain-clause-answered : goal.returns-in-Explain-clause-answered
-returns-in-Explain-clause-answered g c = λ other. absurd (other (inr c.in-Explain.is))
-
-pub returns-in-Explain-clause-broken : goal.returns-in-Explain-clause-broken
-returns-in-Explain-clause-broken g c = λ other. absurd (other (inr c.in-Explain.is))
-
-pub returns-in-Validate-clause-accepted : goal.returns-in-Validate-clause-accepted
-returns-in-Validate-clause-accepted g c = λ check. absurd (with_stream _ c.in-Validate.is (inl check))
-
-pub returns-in-Validate-clause-explained : goal.returns-in-Validate-clause-explained
-returns-in-Validate-clause-explained g c = λ check. absurd (with_stream _ c.in-Validate.is (inr check))
-
-pub returns-in-Validate-clause-unread : goal.returns-in-Validate-clause-unread
-returns-in-Validate-clause-unread g c = λ none. absurd (with_stream _ c.in-Validate.is none)
+pub returns-clause-broken : goal.returns-clause-broken
+returns-clause-broken g c = λ other h.
+    broken_alone c.args.options.now (judge_of c.args.table.now c.args.options.now.steps) (change_of g.W.Write.contents c.args.out.now c.perform.new.out) (change_of g.E.Write.contents c.args.err.now c.perform.new.err)
+    (change_of g.R.Read.remaining c.args.input.now c.perform.new.input) (c.perform.ensures.broken other h)
