@@ -14,36 +14,18 @@ import argparse
 import functools
 import importlib
 import os
-import shlex
 import shutil
 import subprocess
 import sys
 import tempfile
 
-from build import TOP, copy_crate, copy_of, prove, rows_of_crates
+from build import KIT_RT, TOP, copy_crate, copy_of, folder_of_kit, prove, rows_of_crates, told_if_broken_off
 
 CRATE = "cddlseq_c"
 CALLS = "cddlseq_*"
 SONAME = "libcddlseq.so.1"
 # Nothing is resolved late, and nothing can be written to once it is.
 SHARED = ("-shared", f"-Wl,-soname,{SONAME}", "-Wl,-z,defs", "-Wl,-z,now", "-Wl,-z,relro", "-Wl,--gc-sections")
-# The kit's command rt, but of each crate it makes the list of those below and the stamp once. Else each is made again on every way
-# that leads to the crate, at every step.
-RT_ONCE = """\
-import functools, importlib.machinery, importlib.util, sys
-loader = importlib.machinery.SourceFileLoader("rt", sys.argv[1])
-rt = importlib.util.module_from_spec(importlib.util.spec_from_loader("rt", loader))
-loader.exec_module(rt)
-for each in ("below", "stamp"):
-    setattr(rt.rtlib.Crate, each, functools.lru_cache(maxsize=None)(getattr(rt.rtlib.Crate, each)))
-sys.exit(rt.main(sys.argv[2:]))
-"""
-
-
-def folder_of_kit(rt):
-    """The toolchain's folder: 'rt doc' names a page in it."""
-    page = subprocess.run([*shlex.split(rt), "doc"], stdout=subprocess.PIPE, text=True, check=True).stdout.strip()
-    return os.path.dirname(page)
 
 
 def stamps_of(kit, top):
@@ -68,8 +50,7 @@ def build(rt, top):
         for path, stamp in stamps.items():
             with open(path, "w", encoding="utf-8") as file:
                 file.write(stamp)
-        command = [sys.executable, "-B", "-c", RT_ONCE, os.path.join(kit, "bin", "rt"), "lib"]
-        ran = subprocess.run(command, cwd=folder, stdout=subprocess.PIPE, stderr=subprocess.STDOUT, text=True)
+        ran = subprocess.run([*KIT_RT, kit, "lib"], cwd=folder, stdout=subprocess.PIPE, stderr=subprocess.STDOUT, text=True)
     finally:
         for path in stamps:
             os.remove(path)
@@ -133,4 +114,4 @@ def main():
 
 
 if __name__ == "__main__":
-    sys.exit(main())
+    sys.exit(told_if_broken_off(main))

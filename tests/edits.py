@@ -21,8 +21,7 @@ from test_wrong_edits import run_tests
 from wrong_edits import run_wrong
 
 sys.path.insert(0, os.path.join(TOP, "scripts"))
-from build import copy_of, prove
-from library import folder_of_kit
+from build import copy_of, folder_of_kit, prove, told_if_broken_off
 from proved import are_proved
 
 
@@ -72,4 +71,4 @@ def main():
 
 
 if __name__ == "__main__":
-    sys.exit(main())
+    sys.exit(told_if_broken_off(main))

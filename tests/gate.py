@@ -31,6 +31,7 @@ from run_library import run_library
 from run_memory import run_memory
 from run_rows import TOP, run_rows
 from run_small import run_small
+from test_build import run_tests as run_builds
 from test_completions import are_completions_right
 from test_explain import are_explanations_right
 from test_imports import are_imports_clean
@@ -38,7 +39,8 @@ from test_man import is_page_right
 from test_progress import run_progress
 
 sys.path.insert(0, os.path.join(TOP, "scripts"))
-from library import archive_in, build, folder_of_kit, link
+from build import KEPT, folder_of_kit, run_of_ci, told_if_broken_off
+from library import archive_in, build, link
 from proved import note
 
 PROVED = os.path.join(TOP, "crates", "cddlseq", "out", "cddlseq")
@@ -46,9 +48,10 @@ OUTLINE = os.path.join(TOP, "crates", "cddl_outline", "out", "cddl_outline")
 ANSWERS = programs()
 CALLS = archive_in(TOP)
 PROGRAM = os.path.join(TOP, "build", "cddlseq")
-# Each step may take a few gigabytes.
-STEPS_AT_ONCE = 3
-# What a check may take, in KiB: that of stream_calls takes 4.6 GB, and that of cddlseq_c 6.6 GB for a while.
+# What a run of the gate that was broken off has proved, which the next one goes on from.
+UNFINISHED = os.path.join(TOP, "build", "unfinished")
+# What a check may take, in KiB: that of cddlseq_c takes 7.8 GB for a while, and that of stream_calls, which comes next, 4.6 GB.
+MEMORY_OF_THE_LARGEST = 8 << 20
 MEMORY_OF_A_CHECK = 5 << 20
 # Of four side by side on four cores each takes a sixth more processor time.
 CHECKS_AT_ONCE = 3
@@ -56,31 +59,47 @@ COUNT = re.compile(r"(\d+) passed, (\d+) failed")
 
 
 def checks_at_once():
-    """How many checks are to run side by side: at most one a processor, where there is memory for them."""
+    """How many checks of any crates may run side by side: at most one a processor, where there is memory for them, the largest
+    among them."""
     with open("/proc/meminfo", encoding="utf-8") as file:
-        free = re.search(r"MemAvailable: *(\d+) kB", file.read())
-    return max(1, min(CHECKS_AT_ONCE, len(os.sched_getaffinity(0)), int(free[1]) // MEMORY_OF_A_CHECK))
+        free = int(re.search(r"MemAvailable: *(\d+) kB", file.read())[1])
+    beside = max(0, free - MEMORY_OF_THE_LARGEST) // MEMORY_OF_A_CHECK
+    return min(most_at_once(), 1 + beside)
+
+
+def most_at_once():
+    return min(CHECKS_AT_ONCE, len(os.sched_getaffinity(0)))
 
 
 def proofs(rt):
-    """Runs 'rt ci', passes its lines on, and returns how many passed and failed; a run without a count is a failure. Each
-    check is one process: 'rt ci' by itself splits a check where a processor is free, which takes a fifth more of its time."""
-    last, env = "", {"RT_JOBS": str(checks_at_once()), **os.environ}
+    """Runs 'rt ci', passes its lines on, and returns how many passed and failed; a run without a count is a failure. Where there is
+    memory for it each check is one process: 'rt ci' by itself splits a check where a processor is free, which takes a fifth more
+    of its time. Else it goes by what each crate takes. Libraries are taken from a run of the gate that was broken off, and from
+    no other."""
+    last, most = "", most_at_once()
+    env = {"RT_JOBS": str(most), **os.environ} if checks_at_once() == most else None
     for kept in glob.glob(f"{TOP}/crates/*/out/rlib"):
         # what an earlier check built would be put back in place of what this run proves
         shutil.rmtree(kept)
     try:
-        run = subprocess.Popen([*shlex.split(rt), "ci"], cwd=TOP, env=env, stdout=subprocess.PIPE, text=True, errors="replace")
+        with run_of_ci(rt, TOP, UNFINISHED, env=env) as run:
+            for line in run.stdout:
+                print(line, end="", flush=True)
+                last = line.strip() or last
+            status = run.wait()
     except OSError as error:
         print(f"cannot run {rt}: {error}")
         return 0, 1
-    with run:
-        for line in run.stdout:
-            print(line, end="", flush=True)
-            last = line.strip() or last
     count = COUNT.fullmatch(last)
     passed, failed = (int(it) for it in count.groups()) if count else (0, 0)
-    return passed, failed or (1 if run.returncode or not count else 0)
+    return passed, failed or (1 if status or not count else 0)
+
+
+def finish():
+    """Leaves what this run has proved to 'make build' and the like, so that the next one begins from nothing again."""
+    os.makedirs(KEPT, exist_ok=True)
+    for name in os.listdir(UNFINISHED):
+        os.replace(os.path.join(UNFINISHED, name), os.path.join(KEPT, name))
 
 
 def crates_with(text):
@@ -113,7 +132,7 @@ def kept_proofs(rt):
     steps = [(f"tests of {os.path.basename(it)}", [*rt, "test", "--jobs", "1"], it) for it in crates_with("#[test]")]
     steps += [(f"program {os.path.basename(it)}", [*rt, "run", "--", "--help"], crate_of(it)) for it in (PROVED, OUTLINE, *ANSWERS)]
     steps += [("library for C", [*rt, "lib"], crate_of(CALLS))]
-    with ThreadPoolExecutor(STEPS_AT_ONCE) as pool:
+    with ThreadPoolExecutor(checks_at_once()) as pool:
         passed = list(pool.map(lambda it: step(*it), steps))
     return 1 + sum(passed), passed.count(False)
 
@@ -140,6 +159,7 @@ def rows(rt):
         ("comparisons of the completions with the program's help", lambda: (1, 0) if are_completions_right(PROGRAM) else (0, 1)),
         ("comparisons of explanations with the documents", lambda: (1, 0) if are_explanations_right(PROGRAM) else (0, 1)),
         ("progress on a terminal", lambda: run_progress(PROGRAM)),
+        ("builds that are broken off and begun again", run_builds),
         ("rows of the grammar", lambda: run_grammar(OUTLINE)),
         ("comparisons with a plain recognizer", lambda: recognizer.compare(OUTLINE)),
     ):
@@ -158,6 +178,7 @@ def main():
     clean = are_imports_clean()
     print(f"names of other crates' proofs: {'passed' if clean else 'FAILED'}", flush=True)
     passed, failed = told("proofs and tests", lambda: kept_proofs(words.rt) if words.quick else proofs(words.rt))
+    is_counted = passed > 0 and not words.quick
     if not failed and not words.quick:
         note(folder_of_kit(words.rt))
         # 'rt ci' proves a static library, and builds none
@@ -173,8 +194,10 @@ def main():
     passed, failed = passed + clean, failed + (not clean)
     print(f"all parts: {time_of_processes():.0f} processor seconds, {(time.monotonic() - began) / 60:.0f} minutes")
     print(f"{passed} passed, {failed} failed")
+    if is_counted:
+        finish()
     return 1 if failed else 0
 
 
 if __name__ == "__main__":
-    sys.exit(main())
+    sys.exit(told_if_broken_off(main))

@@ -14,7 +14,7 @@ import tempfile
 import types
 
 from functions import functions_of
-from wrong_edits import is_refusal, load_kit
+from wrong_edits import is_refusal
 
 HERE = os.path.dirname(os.path.abspath(__file__))
 SOURCES = {
@@ -292,7 +292,7 @@ def run(rt, folder, edits, anew=True):
     is_right = {it: lines.get(f"wrong sample/{it}.edit", "").startswith(f"wrong sample/{it}.edit: {wanted[it][3]}") for it in edits}
     is_right["count"] = ran.stdout.split("\n")[-2:] == [f"{good} passed, {len(edits) - good} failed", ""]
     known = sum(it.endswith("(by an earlier run)") for it in lines.values())
-    is_right["known"] = known == (0 if anew or not hasattr(load_kit(rt), "Kept") else good)
+    is_right["known"] = known == (0 if anew else good)
     is_right["status"] = ran.returncode == (1 if good < len(edits) else 0)
     wrong = [it for it in is_right if not is_right[it]]
     if wrong:

@@ -7,13 +7,15 @@ With --inner the edits of wrong/inner/ are tried too, of which the gate only see
 where none failed. The crates below are taken from crates/*/out/rlib where that is newer than their sources, as 'rt ci'
 leaves it, and are proved here where it is not.
 
-What was refused is kept on this machine, beside what 'rt ci' keeps: by a sum of the kit, of this script, of the crate and
-those below it, and of the edit. A later run takes it from there, and with --anew tries all.
+What was refused is kept, by a sum of the kit, of this script, of the crate and those below it, and of the edit: on this machine,
+beside what 'rt ci' keeps, or where the kit keeps nothing in build/refused. A later run takes it from there, so one that was broken
+off goes on, and with --anew tries all.
 """
 import argparse
 import collections
 import dataclasses
 import difflib
+import functools
 import hashlib
 import importlib.machinery
 import importlib.util
@@ -25,12 +27,17 @@ import subprocess
 import sys
 import tempfile
 from concurrent.futures import ThreadPoolExecutor, as_completed
+from contextlib import contextmanager
 
 from functions import CYCLE, HEAD, functions_of
 from law_copies import Laws
 
 TOP = os.path.dirname(os.path.dirname(os.path.abspath(__file__)))
 SCRIPT = ("functions.py", "law_copies.py", "wrong_edits.py")
+# What tells one kit from another.
+OF_KIT = ("WHAT", "KIT-ID", "bin/rt", "bin/rtlib.py")
+# What was refused, where the kit keeps nothing.
+REFUSED_HERE = f"{TOP}/build/refused"
 ONE_JOB = ["--jobs", "1"]
 MOST_AT_ONCE = 3
 NAME = re.compile(r"[A-Za-z0-9_-][A-Za-z0-9_.-]*\.edit")
@@ -83,14 +90,16 @@ def is_refusal(kit, said):
     return said if isinstance(said, bool) else said in (kit.REFUSED, kit.AT_LIMIT)
 
 
-class Results:
+def sum_of_script():
+    return [hashlib.sha256(open(f"{TOP}/tests/{it}", "rb").read()).hexdigest() for it in SCRIPT]
+
+
+class ResultsOfKit:
     """What earlier runs on this machine were told of edits that are refused, in a kit that keeps such results."""
 
     def __init__(self, kit, crates, anew):
-        keeps = all(hasattr(kit, it) for it in ("Kept", "stamp_of", "REFUSED"))
-        self.kit, self.stamps = kit, {}
-        self.kept = kit.Kept(crates, anew) if keeps else None
-        self.script = [hashlib.sha256(open(f"{TOP}/tests/{it}", "rb").read()).hexdigest() for it in SCRIPT]
+        self.kit, self.stamps, self.script = kit, {}, sum_of_script()
+        self.kept = kit.Kept(crates, anew)
 
     def name(self, crate, path):
         sum = hashlib.sha256(repr((self.script, self.kit.stamp_of(crate, self.stamps))).encode()).hexdigest()
@@ -98,13 +107,47 @@ class Results:
 
     def of(self, crate, path):
         """What an earlier run was told of this edit, or None."""
-        found = self.kept.tried(self.name(crate, path)) if self.kept else None
+        found = self.kept.tried(self.name(crate, path))
         return found[1] if found and found[0] == self.kit.REFUSED else None
 
-    def keep(self, crate, path, text):
-        """Keeps what was told of an edit that is refused, unless a file that it rests on was changed meanwhile."""
-        if self.kept and all(map(self.kept.is_untouched, [crate, *crate.below()])):
-            self.kept.keep_tried(self.name(crate, path), self.kit.REFUSED, text)
+    def keep(self, crate, told):
+        """Keeps what was told of each of these edits, which are refused, unless a file that it rests on was changed meanwhile."""
+        for path, text in told.items():
+            if all(map(self.kept.is_untouched, [crate, *crate.below()])):
+                self.kept.keep_tried(self.name(crate, path), self.kit.REFUSED, text)
+
+
+class ResultsHere:
+    """The same in a folder of this checkout, for a kit that keeps none: of each edit a file with what was told of it."""
+
+    def __init__(self, kit, crates, anew):
+        self.lib, self.anew, self.files = kit.rtlib, anew, {}
+        self.rest = sum_of_script(), [self.lib.sum_of(f"{self.lib.KIT}/{it}") for it in OF_KIT]
+        self.made_of = {it.name: self.files_of(it) for it in crates}
+
+    def files_of(self, crate):
+        return crate.said, [(it, self.lib.sum_of(it)) for it in self.lib.files_of(crate.folder)]
+
+    def of(self, crate, path):
+        with open(path, "rb") as edit:
+            whole = self.rest, [self.made_of[it.name] for it in [*crate.below(), crate]], path, edit.read()
+        self.files[path] = f"{REFUSED_HERE}/{hashlib.sha256(repr(whole).encode()).hexdigest()}"
+        return None if self.anew else self.lib.text_of(self.files[path])
+
+    def keep(self, crate, told):
+        if any(self.made_of[it.name] != self.files_of(it) for it in [*crate.below(), crate]):
+            return
+        os.makedirs(REFUSED_HERE, exist_ok=True)
+        for path, text in told.items():
+            with open(f"{self.files[path]}.part", "w", encoding="utf-8") as file:
+                file.write(text)
+            os.replace(f"{self.files[path]}.part", self.files[path])
+
+
+def results_of(kit, crates, anew):
+    """What is known of edits that are refused, from earlier runs and for later ones."""
+    keeps = all(hasattr(kit, it) for it in ("Kept", "stamp_of", "REFUSED"))
+    return ResultsOfKit(kit, crates, anew) if keeps else ResultsHere(kit, crates, anew)
 
 
 def hunks(old, new):
@@ -205,8 +248,7 @@ class Trial:
             way = f" {OVER_WHOLE}" if edit in self.over_whole else ""
             said = by_law.get(edit) or f"refused, as it must be: {refused.get(edit, '')[:160]}{way}"
             told.append(alone.get(edit) or (said.startswith("refused"), f"{self.label(edit.path)}: {said}"))
-            if told[-1][0]:
-                self.results.keep(self.crate, edit.path, told[-1][1])
+        self.results.keep(self.crate, {edit.path: text for edit, (is_refused, text) in zip(edits, told) if is_refused})
         return told
 
     def folder_of_proofs(self, room):
@@ -600,8 +642,10 @@ def run_wrong(rt, names=(), anew=False, with_inner=False, is_built=False):
     libraries below are looked after, unless they were built just now."""
     kit = load_kit(rt)
     kit.rtlib.guarded()
+    # (else it is made again on every way that leads to a crate)
+    kit.rtlib.Crate.below = functools.lru_cache(maxsize=None)(kit.rtlib.Crate.below)
     every = kit.rtlib.crates_below(TOP)
-    results = Results(kit, every, anew)
+    results = results_of(kit, every, anew)
     crates = [it for it in every if any(edits_of(it)) and (not names or it.name in names)]
     if not is_built and not build_below(kit, crates):
         print("the crates below are not proved, so no edit is tried")
@@ -609,12 +653,28 @@ def run_wrong(rt, names=(), anew=False, with_inner=False, is_built=False):
     crates.sort(key=lambda it: -it.count(rb"\n"))
     lanes = min(MOST_AT_ONCE, kit.processors(), *(int(0.85 * kit.free() / kit.need(it)) for it in crates[:1]))
     passed = failed = 0
-    with ThreadPoolExecutor(max(lanes, 1)) as pool:
+    with ThreadPoolExecutor(max(lanes, 1)) as pool, folder_of_run():
         for it in as_completed([pool.submit(Trial(kit, crate, results, with_inner, is_built).run) for crate in crates]):
             for is_refused, text in it.result():
                 print(text, flush=True)
                 passed, failed = passed + is_refused, failed + (not is_refused)
     return passed, failed
+
+
+@contextmanager
+def folder_of_run():
+    """Has all that this run makes for a while in one folder, so that a signal can break it off at once: the pool would wait for all
+    checks, which the kit's guard ends with this process."""
+    with tempfile.TemporaryDirectory(prefix="wrong-edits-") as room:
+        tempfile.tempdir, before = room, tempfile.tempdir
+        try:
+            yield
+        except KeyboardInterrupt:
+            shutil.rmtree(room, ignore_errors=True)
+            print("broken off: the next run goes on from the crates whose edits were told", flush=True)
+            os._exit(130)
+        finally:
+            tempfile.tempdir = before
 
 
 def main():
