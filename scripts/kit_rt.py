@@ -3,14 +3,14 @@
 
     kit_rt.py KIT [--kept FOLDER] WORD..
 
-Of each crate it makes the list of those below and the stamp once. By itself rt makes each again on every way that leads to the
-crate, at every step.
+Of each crate it makes the list of those below once, and the stamp. By itself rt makes such a list again on every way that leads to
+the crate, at every step, which takes some 25 s at the start of 'rt ci' here.
 
 With --kept, 'rt ci' puts the library of each crate that it has proved into the folder at once. It takes a library from there, in
 place of proving the crate again, where all that it was made of is the same: the kit, HANDLES, the line in crates.txt, the
-crate's files, and each library below it, byte by byte. Such a run ends with its standard input, and all its checks with it.
-It has as many checks side by side as the free memory holds by two thirds of what the kit reckons for each, and by all of it for a
-static library. A kit that keeps what it proves, or whose 'rt ci' is another one than what is known here, runs as it is.
+crate's files, and each library below it, byte by byte. It has as many checks side by side as the free memory holds by two thirds of what the kit reckons for each, and by all of it for a
+static library. A kit that keeps what it proves does so by itself, and reckons by itself. Such a run ends with its standard input,
+and all its checks with it. A kit whose 'rt ci' is another one than these runs as it is.
 """
 import functools
 import hashlib
@@ -40,8 +40,8 @@ def load(kit):
     return rt
 
 
-def make_once(crates):
-    for each in ("below", "stamp"):
+def make_once(crates, *calls):
+    for each in calls:
         setattr(crates, each, functools.lru_cache(maxsize=None)(getattr(crates, each)))
 
 
@@ -132,6 +132,13 @@ def pack(folder, file):
                     archive.writestr(zipfile.ZipInfo(f"{inside}/{name}"), it.read(), zipfile.ZIP_DEFLATED, 1)
 
 
+def keep(rt, kept):
+    """Has 'rt ci' take from what is kept, and put there what it proves."""
+    prove, need = rt.Crate.ci, rt.need
+    rt.need = lambda crate: need(crate) * (1 if crate.is_static else SHARE)
+    rt.Crate.ci = lambda crate, flags, tests: kept.prove(prove, crate, flags, tests)
+
+
 def end_with_input():
     os.read(0, 1)
     os._exit(1)
@@ -142,16 +149,17 @@ def main(words):
     folder, words = (words[1], words[2:]) if words[:1] == ["--kept"] else (None, words)
     rt = load(kit)
     if folder is None:
-        make_once(rt.rtlib.Crate)
+        make_once(rt.rtlib.Crate, "below", "stamp")
         return rt.main(words)
-    if not can_keep(rt):
+    if can_keep(rt):
+        make_once(rt.rtlib.Crate, "below", "stamp")
+        keep(rt, Kept(rt, kit, folder))
+    elif hasattr(rt, "Kept"):
+        # (it makes stamps once by itself)
+        make_once(rt.rtlib.Crate, "below")
+    else:
         command = os.path.join(kit, "bin", "rt")
         os.execv(command, [command, *words])
-    make_once(rt.rtlib.Crate)
-    kept = Kept(rt, kit, folder)
-    prove, need = rt.Crate.ci, rt.need
-    rt.need = lambda crate: need(crate) * (1 if crate.is_static else SHARE)
-    rt.Crate.ci = lambda crate, flags, tests: kept.prove(prove, crate, flags, tests)
     # The kit's own guard ends the checks where this process ends; it has to begin before any thread does.
     rt.rtlib.guarded()
     signal.signal(signal.SIGINT, signal.SIG_DFL)

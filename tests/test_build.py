@@ -222,6 +222,7 @@ def run_tests():
         wants("another kit", tree.whole(), (["low", "middle", "other", "top"], []))
         tree.write("kit/bin/rt", RT.replace("class Crate:", "Kept = True\n\nclass Crate:"))
         wants("a kit that keeps by itself", tree.whole(), (["low", "middle", "other", "top"], []))
+        wants("the same, broken off by force", tree.broken_off(tree.build, "other", signal.SIGKILL), (["low", "middle", "other"], -9, True))
     return passed, failed
 
 
