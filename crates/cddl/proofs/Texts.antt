@@ -9,19 +9,24 @@ use Rattle.cddl_token.specs.Tokens.{Spanned, Tokenized}
 use Rattle.cddl_token.specs.declared.Code.{Code}
 use Rattle.cddl_token.specs.declared.Code.TheVariants.{NoRoot}
 use Rattle.cddl_token.specs.declared.Kind.TheVariants.{End}
+use Rattle.cddl_token.specs.declared.Refusal.{Refusal}
+use Rattle.cddl_token.specs.declared.Refusal.TheVariants as why
 use Rattle.cddl_token.specs.declared.Token.{Token}
 use Rattle.tree_nodes.specs.Syntax.Answers as S
 use Rattle.tree_nodes.specs.Syntax.Answers.{IsTreeOf}
 use Rattle.tree_nodes.specs.Syntax.Syntax.{Cddl}
 use Rattle.check_text.specs.declared.fault.Fault.{Fault}
 use Rattle.cddl_check.specs.Outcome.{specification}
-use Rattle.cddl_check.specs.Text.{AreTokensOf, IsTreeOfText, IsWrongText, has_fault, no_tokens, no_tree}
+use Rattle.cddl_check.specs.Text.{AreTokensOf, IsTreeOfText, IsUnreadText, IsWrongText, has_fault, no_tokens, no_tree}
 use Rattle.cddl_language.specs.Faults as F
 use Rattle.cddl_language.specs.Faults.{IsAccepted, Specification, definitions, no_rule, root_of}
 use Rattle.cddl_language.specs.Literals.{AreRight, AreTokens, Values}
 use Rattle.cddl_language.specs.Terms.{Text}
 use Rattle.cddl_decided.specs.Readings.{AreRead, TellTheSame}
+use Rattle.cddl.specs.Failures.{failure_of}
 use Rattle.cddl.specs.Rules.{HasRoot, Rule}
+use Rattle.cddl.specs.Validated.{IsNoRefusal, IsRefusalFor}
+use Rattle.cddl.specs.declared.validating.Failure.TheVariants.{Refused}
 
 -- the laws from which this follows, over tokens,
 pub record OfTokens : Type 0 where
@@ -172,3 +177,13 @@ module _ (of_tokens : OfTokens) (of_trees : OfTrees) (of_faults : OfFaults) (of_
   one_root rule other h k =
       let alike = same h.tree k.tree h.is_tree k.is_tree in
       (same_Some other.name rule.name (sym k.name_is ∙ alike.root named ∙ h.name_is), k.definitions_are ∙ alike.same_definitions named ∙ sym h.definitions_are)
+
+-- What is told of a text that is not read, then follows from the text.
+module _ (text : List ℕ) (named : Option Text) where
+  pub no_refusal : ((rule : Rule) (f : Fault) → HasRoot text named rule → IsWrongText text named f → ⊥) → (rule : Rule) → HasRoot text named rule → (e : Refusal) → IsUnreadText text named e → IsNoRefusal (failure_of e)
+  no_refusal apart rule root (why.At code at) h = absurd (apart rule (record { code = code; at = at }) root h)
+  no_refusal apart rule root why.Memory h = tt
+
+  pub refusal_for : ((f g : Fault) → IsWrongText text named f → IsWrongText text named g → g ≡ f) → (f : Fault) → IsWrongText text named f → (e : Refusal) → IsUnreadText text named e → IsRefusalFor f (failure_of e)
+  refusal_for one f w (why.At code at) h = inl (ap (λ (x : Fault). Refused x.code x.at) (one f (record { code = code; at = at }) w h))
+  refusal_for one f w why.Memory h = inr refl

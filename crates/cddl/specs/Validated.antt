@@ -1,11 +1,12 @@
 -- What `validate` answers: said of the text and of the stream alone.
-use Rattle.std.specs.Prelude.{◌≡◌, ℕ, ◌≤◌, List, [], ◌∷◌, length, Option, IfSome}
+use Rattle.std.specs.Prelude.{◌≡◌, ℕ, ◌≤◌, ◌⊎◌, List, [], ◌∷◌, length, Option, IfSome}
 use Rattle.std.specs.Io.KnownBytes as bytes
 use Rattle.cbor_data.specs.Faults.{Bounds, last_offset}
 use Rattle.cbor_data.specs.Preferred.{preferred}
 use Rattle.cbor_data.specs.Sequence.{Found}
 use Rattle.cbor_data.specs.Value.{AreBytes, Value}
 use Rattle.cddl_check.specs.Text.{IsWrongText}
+use Rattle.check_text.specs.declared.fault.Fault.{Fault}
 use Rattle.cddl_language.specs.Terms.{Text}
 use Rattle.item_nodes.specs.declared.counted.Counted.{Counted}
 use Rattle.seq_run.specs.Answers.{items_of}
@@ -80,3 +81,12 @@ IsFailed text named l steps mode input output (Stopped fault) = IsStopped text n
 abbrev pub LeavesDevices : {R W : Type 0} → Counted R → Counted R → Counted W → Counted W → Failure → Type 0
 LeavesDevices input_old input_new output_old output_new (Refused code at) = (input_new ≡ input_old) × (output_new ≡ output_old)
 LeavesDevices input_old input_new output_old output_new (Stopped fault) = Unit {0}
+
+-- The text is not refused: the call was stopped.
+abbrev pub IsNoRefusal : Failure → Type 0
+IsNoRefusal (Refused code at) = ⊥
+IsNoRefusal (Stopped fault) = Unit {0}
+
+-- The text is refused for this fault, or memory for the specification was refused.
+abbrev pub IsRefusalFor : Fault → Failure → Type 0
+IsRefusalFor fault failure = (failure ≡ Refused fault.code fault.at) ⊎ (failure ≡ Stopped (Memory 0))

@@ -1,12 +1,15 @@
 //! From the text of a specification and a stream to what is told of it, in one call.
 
-ghost use Rattle.std.specs.Prelude.{◌≡◌, IfErr, IfOk, option_map};
+ghost use Rattle.std.specs.Prelude.{◌≡◌, IfErr, IfOk, IsErrAnd, option_map};
+ghost use Rattle.cddl_check.specs.Text.{IsWrongText};
+ghost use Rattle.check_text.specs.declared.fault.Fault.{Fault};
 ghost use Rattle.seq_run.specs.Running.{change_of};
-ghost use Rattle.cddl.specs.Validated.{IsFailed, IsValidated, LeavesDevices};
+ghost use Rattle.cddl.specs.Rules.{HasRoot, Rule};
+ghost use Rattle.cddl.specs.Validated.{IsFailed, IsNoRefusal, IsRefusalFor, IsValidated, LeavesDevices};
 ghost use Rattle.cddl.specs.Failures.{failure_of};
 ghost use Rattle.cddl.specs.declared.validating.Failure.TheVariants as Why;
 
-use crate::laws::table_has_root;
+use crate::laws::{accepted_or_wrong, table_has_root};
 use cbor_item::{Counted, Sound};
 use cbor_read::Limits;
 use cddl_table::read_specification;
@@ -58,8 +61,9 @@ impl From<RunFault> for Failure {
 ///
 /// # Errors
 ///
-/// [`Failure::Refused`] with the fault that is reported of the text: the devices are as they were. [`Failure::Stopped`] where a
-/// read, a write or an allocation of this call failed, with what [`RunFault`] says of the output.
+/// [`Failure::Refused`] with the fault that is reported of the text: the devices are as they were. A text that has a root rule
+/// is never refused; a wrong one always is, unless memory for it was refused. [`Failure::Stopped`] where a read, a write or an
+/// allocation of this call failed, with what [`RunFault`] says of the output.
 pub fn validate<R: Read, W: Write>(
     alloc: Global,
     specification: &[u8],
@@ -75,7 +79,10 @@ pub fn validate<R: Read, W: Write>(
     ensures failed { IfErr result (IsFailed specification.now (option_map (λ t. t.now) root.entry) limits steps mode
         (change_of R.remaining input.old input.new) (change_of W.contents output.old output.new)) }
     ensures refused { IfErr result (LeavesDevices input.old input.new output.old output.new) }
+    ensures accepted { (rule : Rule) → HasRoot specification.now (option_map (λ t. t.now) root.entry) rule → IfErr result IsNoRefusal }
+    ensures wrong { (fault : Fault) → IsWrongText specification.now (option_map (λ t. t.now) root.entry) fault → IsErrAnd result (IsRefusalFor fault) }
 {
+    accepted_or_wrong();
     table_has_root();
     one_end_by_text();
     let depth = limits.depth();
