@@ -16,7 +16,7 @@ use Rattle.cddl_meaning.specs.Size.{size}
 use Rattle.cddl_decided.specs.Ways.{WaysEnd}
 use Rattle.cddl_decided.proofs.Founding.{group_founded, type_founded}
 use Rattle.cddl_decided.proofs.OfBounds.Few.{few_pairs}
-use Rattle.cddl_decided.proofs.Names.{IsGroup, IsType, MoreChoices, groups_have, types_have}
+use Rattle.cddl_decided.proofs.Names.{IsGroup, IsType, MoreChoices, OfInstances, groups_have, instances_down, types_have}
 use Rattle.cddl_decided.proofs.Reached.{AreInstancesOn, goes_on}
 use Rattle.cddl_decided.proofs.Ways.{all_end}
 
@@ -33,8 +33,8 @@ decided on more s worth root accepted e none g x few =
     let ends = ways_end on s worth root accepted e none in
     let fits : 0 + size x < 2 ^ 64 = omega (arith, few) in
     founded_decided (language worth ds) (IsType worth ds root) (IsGroup worth ds root) (record {
-      types = types_have worth ds root here (more ds);
-      groups = groups_have worth ds root here (more ds);
+      types = types_have worth ds (OfInstances ds root) (instances_down ds root here) (more ds);
+      groups = groups_have worth ds (OfInstances ds root) (instances_down ds root here) (more ds);
       type_ends = type_founded worth ds root here (more ds) ends;
       group_ends = group_founded worth ds root here (more ds) ends;
     }) (reference (call root no_terms)) (at_root, g) 0 x fits

@@ -26,7 +26,7 @@ use Rattle.check_instances.specs.Closed.Closed.{AreReached}
 use Rattle.cddl_decided.specs.Ways.{WaysEnd, ends}
 use Rattle.cddl_meaning.proofs.OfRanks.Lemmas.{AreAll, IsFounded, founded}
 use Rattle.cddl_decided.proofs.Emptiness.{empty_entries}
-use Rattle.cddl_decided.proofs.Names.{IsGroup, IsType, MoreChoices, all_both, all_mapped, names_have}
+use Rattle.cddl_decided.proofs.Names.{IsGroup, IsType, MoreChoices, OfInstances, all_both, all_mapped, instances_down, names_have}
 use Rattle.cddl_decided.proofs.Parts.{named_group, opened_group}
 use Rattle.cddl_decided.proofs.Points.{all_points}
 use Rattle.cddl_decided.proofs.Reached.{AreInstancesOn, choice as choice_reached, each, entry as entry_reached, free, goes_on, in_all, left, of_all, of_group, right}
@@ -258,7 +258,7 @@ module _ (worth : Values) (ds : List Definition) (root : Text) (on : AreInstance
     both_end (map_of g) h k = alone (map_of g) refl (map_free (map_alternatives ds g))
     both_end (array_of g) h k = alone (array_of g) refl (array g (groups_of (alternatives g) (all_end g h (λ p f. k p (F.in_array f)))))
     both_end (unwrapped r) h k = alone (unwrapped r) refl (content_free r (k (at_unwrapping r) (F.unwrapping refl)) (opened ds r) refl)
-    both_end (choice_of g) h k = alone (choice_of g) refl (choice_free (chosen_names worth ds (alternatives g)) (chosen ds g) (λ s. names_end (alternatives g) (chosen_alternatives_end g h (names_split Types (alternatives g) (names_have worth ds root on more (alternatives g) (of_group ds root g h) (chosen ds g) refl s)) (λ p f. k p (F.in_choice f)))))
+    both_end (choice_of g) h k = alone (choice_of g) refl (choice_free (chosen_names worth ds (alternatives g)) (chosen ds g) (λ s. names_end (alternatives g) (chosen_alternatives_end g h (names_split Types (alternatives g) (names_have worth ds (OfInstances ds root) (instances_down ds root on) more (alternatives g) (of_group ds root g h) (chosen ds g) refl s)) (λ p f. k p (F.in_choice f)))))
     both_end (choice_of_name r) h k = alone (choice_of_name r) refl (choice_free (chosen_names worth ds (group_choices ds r)) (chosen_by_name ds r) (k (at_choice r) (F.choice_by_name refl)))
     both_end (tagged n t) h k = alone (tagged n t) refl (λ b f. elim f [ ])
     both_end (tagged_by u t) h k = alone (tagged_by u t) refl (λ b f. elim f [ ])
@@ -299,7 +299,7 @@ module _ (worth : Values) (ds : List Definition) (root : Text) (on : AreInstance
     chosen_entry_ends : (x : Entry) → AreReached ds root (entry_points x) → Types (chosen_name worth ds x) → ((p : Point) → IsFreeInChosenEntry ds p x → Result p) → EndingType (chosen_name worth ds x)
     chosen_entry_ends (typed o t) h a k = chosen_part_ends t (part_of ds t) refl (λ e. (both_end t h (λ p f. k p (F.of_type e f))).0) (λ r e. k (at_chosen_name r) (F.of_name e refl)) (λ r g e. k (at_opened_choice r) (F.of_opened e refl)) a
     chosen_entry_ends (keyed o y t) h a k = (both_end t (right ds root (key_points y) (points t) h) (λ p f. k p (F.of_keyed f))).0
-    chosen_entry_ends (grouped o g) h a k = choosing (chosen_names worth ds (alternatives g)) (chosen_of (alternatives g)) refl (names_end (alternatives g) (chosen_alternatives_end g h (names_split Types (alternatives g) (names_have worth ds root on more (alternatives g) a.0 (chosen ds g) refl a.1)) (λ p f. k p (F.of_group f))))
+    chosen_entry_ends (grouped o g) h a k = choosing (chosen_names worth ds (alternatives g)) (chosen_of (alternatives g)) refl (names_end (alternatives g) (chosen_alternatives_end g h (names_split Types (alternatives g) (names_have worth ds (OfInstances ds root) (instances_down ds root on) more (alternatives g) a.0 (chosen ds g) refl a.1)) (λ p f. k p (F.of_group f))))
 
   group_ends : (g : Group) → AreReached ds root (group_points g) → ((p : Point) → IsFreeInSome ds p (alternatives g) → Result p) → Ending (a_group (first_of (alternatives g)))
   group_ends g h k = groups_of (alternatives g) (all_end g h k)
@@ -343,8 +343,8 @@ module _ (worth : Values) (ds : List Definition) (root : Text) (on : AreInstance
     λ g e. group_ends g (on.opened_group r g h e) (λ q i. result q (goes_on ds root on (at_unwrapping r) q (F.by_opened_group e i) h) (f q (F.by_opened_group e i))),
   )
   result (at_choice r) h (ends f) = result (at_chosen_name r) h (f (at_chosen_name r) (F.by_choice refl))
-  result (at_chosen_name r) h (ends f) = λ c. list_ends (group_choices ds r) (λ es i. on.group r es h i) (names_split Types (group_choices ds r) (names_have worth ds root on more (group_choices ds r) (of_all ds root (group_choices ds r) (λ es i. on.group r es h i)) (chosen_by_name ds r) refl c)) (λ q i. result q (goes_on ds root on (at_chosen_name r) q (F.by_chosen_name c i) h) (f q (F.by_chosen_name c i)))
-  result (at_opened_choice r) h (ends f) = λ g e c. chosen_group_ends g (on.opened_group r g h e) (names_have worth ds root on more (alternatives g) (of_group ds root g (on.opened_group r g h e)) (chosen ds g) refl c) (λ q i. result q (goes_on ds root on (at_opened_choice r) q (F.by_opened_choice e c i) h) (f q (F.by_opened_choice e c i)))
+  result (at_chosen_name r) h (ends f) = λ c. list_ends (group_choices ds r) (λ es i. on.group r es h i) (names_split Types (group_choices ds r) (names_have worth ds (OfInstances ds root) (instances_down ds root on) more (group_choices ds r) (of_all ds root (group_choices ds r) (λ es i. on.group r es h i)) (chosen_by_name ds r) refl c)) (λ q i. result q (goes_on ds root on (at_chosen_name r) q (F.by_chosen_name c i) h) (f q (F.by_chosen_name c i)))
+  result (at_opened_choice r) h (ends f) = λ g e c. chosen_group_ends g (on.opened_group r g h e) (names_have worth ds (OfInstances ds root) (instances_down ds root on) more (alternatives g) (of_group ds root g (on.opened_group r g h e)) (chosen ds g) refl c) (λ q i. result q (goes_on ds root on (at_opened_choice r) q (F.by_opened_choice e c i) h) (f q (F.by_opened_choice e c i)))
 
   -- of all that is of instances alone
 
@@ -355,7 +355,7 @@ module _ (worth : Values) (ds : List Definition) (root : Text) (on : AreInstance
     pub type_founded : (n : TypeName) → Types n → EndingType n
     type_founded (type t) h = (both_end t h (λ p f. at_point p (free ds root on p t f h))).0
     type_founded (reference r) h = (at_point (at_name r) h.0).0 h.1
-    type_founded (chosen_of ess) h = choosing (chosen_names worth ds ess) (chosen_of ess) refl (list_ends ess (λ es c. in_all ds root ess es (from_contains ess es c) h.0) (names_split Types ess (names_have worth ds root on more ess h.0 (chosen_in ds most_instances ess) refl h.1)) (λ p f. at_point p (choice_reached ds root on p ess f h.0)))
+    type_founded (chosen_of ess) h = choosing (chosen_names worth ds ess) (chosen_of ess) refl (list_ends ess (λ es c. in_all ds root ess es (from_contains ess es c) h.0) (names_split Types ess (names_have worth ds (OfInstances ds root) (instances_down ds root on) more ess h.0 (chosen_in ds most_instances ess) refl h.1)) (λ p f. at_point p (choice_reached ds root on p ess f h.0)))
     type_founded (word n) h = founded (λ b f. by b f)
       where
         by : (b : Name TypeName GroupName) → IsFree (language worth ds) (a_type (word n)) b → Ending b

@@ -3,12 +3,16 @@ mod Apart
 mod Clearing
 mod Emptiness
 mod Founding
+mod Freedom
+pub mod Lemmas
 mod Names
 mod OfBounds
 mod OfReadings
+mod OfTables
 mod OfTokens
 mod Outcomes
 mod Parts
+mod Pieces
 mod Points
 mod Reached
 mod Splicing

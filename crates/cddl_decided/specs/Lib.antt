@@ -1,3 +1,4 @@
 pub mod Bounds
 pub mod Readings
+pub mod Tables
 pub mod Ways

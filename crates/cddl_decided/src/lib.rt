@@ -4,6 +4,7 @@
 
 ghost use Rattle.std.specs.Prelude.{◌≡◌, ◌<◌, ◌^◌, ℕ, List, Option, Some, map};
 ghost use Rattle.cbor_data.specs.Value.{Value};
+ghost use Rattle.cddl_decided.specs.Tables.{HasTable};
 ghost use Rattle.cddl_decided.specs.Ways.{WaysEnd};
 ghost use Rattle.cddl_language.specs.Faults.{IsAccepted, IsRefused, Specification, definitions, root_of, rules};
 ghost use Rattle.cddl_language.specs.Free.{MayBeEmpty};
@@ -53,6 +54,19 @@ pub fn ways_end()
 /// no, and in one number of judgements.
 pub fn accepted_is_decided()
     ensures { (s : Specification) (worth : Values) (root : Text) → IsAccepted s worth → root_of s ≡ Some root → (x : Value) → size x < 2 ^ 64 → IsDecided (language worth (definitions s)) (type_node worth (definitions s) (reference (call root no_terms))) 0 x }
+{
+    accepted_has_no_cycle();
+    accepted_root_is_type();
+    more_names_change_nothing();
+    meanings_are_reached();
+    opened_is_reached();
+    part_is_reached();
+}
+
+/// No accepted specification is without a table: it can't be that no language of finitely many types and groups, each a number with
+/// a rank, stands for it.
+pub fn accepted_has_table()
+    ensures { (s : Specification) (worth : Values) (root : Text) → IsAccepted s worth → root_of s ≡ Some root → (HasTable worth (definitions s) root → ⊥) → ⊥ }
 {
     accepted_has_no_cycle();
     accepted_root_is_type();

@@ -25,7 +25,7 @@ use Rattle.table_making.specs.declared.origin.GroupOrigin.TheVariants as G
 use Rattle.cddl_table.specs.Ranks.{group_rank}
 use Rattle.cddl_table.proofs.Lists.{in_map}
 use Rattle.cddl_table.proofs.Rows.{other_part, earlier_part}
-use Rattle.cddl_table.proofs.Freedom.{FreeGroup}
+use Rattle.cddl_decided.proofs.Lemmas.{FreeGroup}
 use Rattle.cddl_table.proofs.Parts.{named_group, opened_group}
 use Rattle.cddl_table.proofs.Down.{Given, through, above_none, lifted, under_one, one_more, left_reached, group_points_reached, one_reached, step, below_alternatives, below_group, below_sequence, below_entry}
 

@@ -1,6 +1,5 @@
 mod Lists
 mod Rows
-mod Freedom
 mod Down
 mod Parts
 mod Types

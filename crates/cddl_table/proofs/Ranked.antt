@@ -21,7 +21,7 @@ use Rattle.table_making.specs.declared.origin.TypeOrigin.{TypeOrigin}
 use Rattle.table_making.specs.declared.origin.TypeOrigin.TheVariants as T
 use Rattle.cddl_table.specs.Ranks.{type_rank, group_rank}
 use Rattle.cddl_table.proofs.Lists.{as_long}
-use Rattle.cddl_table.proofs.Freedom.{FreeType, FreeItems, FreeGroup, free_type, free_items, free_group, free_types_alike, free_items_alike, free_group_alike}
+use Rattle.cddl_decided.proofs.Lemmas.{FreeType, FreeItems, FreeGroup, free_type, free_items, free_group, free_types_alike, free_items_alike, free_group_alike}
 use Rattle.cddl_table.proofs.Down.{Given}
 use Rattle.cddl_table.proofs.Types.{types_down, items_down}
 use Rattle.cddl_table.proofs.Groups.{groups_down}

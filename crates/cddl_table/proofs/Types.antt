@@ -31,7 +31,7 @@ use Rattle.table_making.specs.declared.origin.TypeOrigin.TheVariants as T
 use Rattle.cddl_table.specs.Ranks.{type_rank, group_rank}
 use Rattle.cddl_table.proofs.Lists.{in_map}
 use Rattle.cddl_table.proofs.Rows.{sole_part, other_part, last_part, earlier_part, entry_part, chosen_part, first_choice}
-use Rattle.cddl_table.proofs.Freedom.{FreeType, FreeItems}
+use Rattle.cddl_decided.proofs.Lemmas.{FreeType, FreeItems}
 use Rattle.cddl_table.proofs.Parts.{opened_group}
 use Rattle.cddl_table.proofs.Down.{Given, through, above_none, lifted, left_reached, right_reached, group_points_reached, one_reached, it_is_reached, step, below_row, below_instance, below_chosen, below_chosen_group, below_group}
 
