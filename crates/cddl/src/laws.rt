@@ -9,6 +9,7 @@ ghost use Rattle.cddl_meaning.specs.Judges.{Answer};
 ghost use Rattle.cddl_meaning.specs.Size.{size};
 ghost use Rattle.seq_run.specs.declared.end.End.{End};
 ghost use Rattle.cddl_check.specs.Text.{IsWrongText};
+ghost use Rattle.cddl_decided.specs.Tables.{HasTable};
 ghost use Rattle.cddl_table.specs.Text.{IsTabledText};
 ghost use Rattle.check_text.specs.declared.fault.Fault.{Fault};
 ghost use Rattle.cddl_language.specs.Terms.{Text};
@@ -18,7 +19,7 @@ ghost use Rattle.cddl.specs.Tables.{SpeaksFor};
 
 use cddl_check::trees_are_of_tokens;
 use cddl_decided::tokens::{one_reading, tokens_or_fault};
-use cddl_decided::{accepted_is_decided, one_outcome};
+use cddl_decided::{accepted_has_table as tree_has_table, accepted_is_decided, one_outcome};
 use cddl_language::{one_fault, one_table_of_values};
 use cddl_token::one_answer;
 use seq_run::meaning::{one_end_by_text, some_end_by_text, table_stands_for_text};
@@ -67,4 +68,13 @@ pub fn accepted_or_wrong()
     one_table_of_values();
     one_fault();
     one_outcome();
+}
+
+/// No accepted text is without a table: it can't be that no language of finitely many types and groups, each a number with a rank,
+/// stands for what the text's root rule means. [`read_specification`](crate::read_specification) makes such a one, of numbers of
+/// 32 bits, or answers that memory was refused. It does nothing.
+pub fn accepted_has_table()
+    ensures { (text : List ℕ) (named : Option Text) (rule : Rule) → HasRoot text named rule → (HasTable rule.values rule.definitions rule.name → ⊥) → ⊥ }
+{
+    tree_has_table();
 }

@@ -7,7 +7,7 @@
 mod laws;
 mod validating;
 
-pub use crate::laws::{accepted_or_wrong, table_has_root, text_decides};
+pub use crate::laws::{accepted_has_table, accepted_or_wrong, table_has_root, text_decides};
 pub use crate::validating::{Failure, validate};
 pub use cbor_item::{
     Counted, DetFault, Item, Sound, Unsound, Width, WriteFault, diag, item_at, path_text,
