@@ -3,7 +3,7 @@ use Rattle.std.proofs.Common.{◌≡◌, ℕ, zero, suc, ◌+◌, List, [], ◌�
 use Rattle.std.specs.List.{Contains}
 use Rattle.cbor_data.specs.Value.{Value}
 use Rattle.cddl_token.specs.declared.Token.{Token}
-use Rattle.table_nodes.specs.declared.nodes.TypeId.{TypeId}
+use Rattle.type_links.specs.declared.link.Link.{Link}
 use Rattle.cddl_sources.specs.declared.place.Place.{Place}
 use Rattle.cddl_sources.specs.declared.sources.Sources.{Sources}
 use Rattle.cddl_reasons.specs.declared.causes.Reason.{Reason}
@@ -31,7 +31,7 @@ pub take_one_more : {A : Type 0} (xs : List A) (i : ℕ) (x : A) → slice_get x
 take_one_more xs i x e = let on : i + 1 ≡ suc i = omega arith in ap (λ n. take n xs) on ∙ take_suc xs i x e
 
 -- where the types stand, or that they are of no rule
-pub placed : (x : Sources) (chain : List TypeId) (p : Option Place) → IfSome p (λ q. IsPlaceOf x chain (Some q)) → IfNone p (IsPlaceOf x chain None) → IsPlaceOf x chain p
+pub placed : (x : Sources) (chain : List Link) (p : Option Place) → IfSome p (λ q. IsPlaceOf x chain (Some q)) → IfNone p (IsPlaceOf x chain None) → IsPlaceOf x chain p
 placed x chain (Some p) some none = some
 placed x chain None some none = none
 

@@ -1,7 +1,8 @@
 -- What a reason says, as it is told.
 use Rattle.std.specs.Prelude.{List, [], ◌∷◌, ◌++◌}
 use Rattle.table_nodes.specs.declared.nodes.Content.TheVariants.{OneItem, Sequence}
-use Rattle.table_nodes.specs.declared.nodes.TypeId.{TypeId}
+use Rattle.type_links.specs.declared.link.Link.{Link}
+use Rattle.type_links.specs.declared.link.Link.TheVariants as L
 use Rattle.cddl_reasons.specs.declared.causes.Cause.{Cause}
 use Rattle.cddl_reasons.specs.declared.causes.Cause.TheVariants.{Value, Missing, TooMuch, Stray, Few, Many, NothingHeld}
 use Rattle.cddl_reasons.specs.declared.causes.Reason.{Reason}
@@ -19,16 +20,16 @@ told_cause (Many key count most) = Told.KeyTooMany count most
 told_cause (NothingHeld OneItem) = Told.NoItem
 told_cause (NothingHeld Sequence) = Told.NoSequence
 
--- the type of a member or of a key that it names
-abbrev pub type_in : Cause → List TypeId
-type_in (Missing member) = member ∷ []
-type_in (Few key count least) = key ∷ []
-type_in (Many key count most) = key ∷ []
-type_in Value = []
-type_in TooMuch = []
-type_in Stray = []
-type_in (NothingHeld content) = []
+-- the link to the type of a member or of a key that it names
+abbrev pub link_in : Cause → List Link
+link_in (Missing member) = L.Type member ∷ []
+link_in (Few key count least) = L.Type key ∷ []
+link_in (Many key count most) = L.Type key ∷ []
+link_in Value = []
+link_in TooMuch = []
+link_in Stray = []
+link_in (NothingHeld content) = []
 
--- the types that led to what the reason is about, each to the next
-abbrev pub chain_of : Reason → List TypeId
-chain_of r = r.types.items ++ type_in r.cause
+-- what led to what the reason is about, step by step
+abbrev pub chain_of : Reason → List Link
+chain_of r = r.links.items ++ link_in r.cause

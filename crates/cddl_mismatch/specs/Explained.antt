@@ -15,8 +15,8 @@ use Rattle.cddl_check.specs.Spec.{Checked}
 use Rattle.cddl_check.specs.Text.{AreTokensOf, IsWrongText}
 use Rattle.table_making.specs.Basis.{Sense}
 use Rattle.table_making.specs.Nodes.{IsNameOfType}
-use Rattle.table_nodes.specs.declared.nodes.TypeId.{TypeId}
 use Rattle.table_nodes.specs.declared.table.Table.{Table}
+use Rattle.type_links.specs.declared.link.Link.{Link}
 use Rattle.cddl_table.specs.Text.{IsTableOf}
 use Rattle.cddl_sources.specs.Places.{IsOfNoRule, IsPlace}
 use Rattle.cddl_sources.specs.Sources.{AreSources, AreSourcesOf}
@@ -31,10 +31,11 @@ use Rattle.cddl_mismatch.specs.Lines.{IsLineAt}
 use Rattle.cddl_mismatch.specs.Places.{ArePlaceWords, outer_place}
 use Rattle.cddl_mismatch.specs.declared.reasons.TheConstants.{MOST}
 
--- The place is that of the last of these types that stands in the text. Nothing is told where they are of no rule.
-abbrev pub IsPlaceOf : Sources → List TypeId → Option Place → Type 0
+-- The place is that of the last of the types to which these links lead that stands in the text. Nothing is told where they are of no
+-- rule.
+abbrev pub IsPlaceOf : Sources → List Link → Option Place → Type 0
 IsPlaceOf x chain (Some p) = (s : Sense) (table : Table) (known : AreSources s table x) → IsPlace (rules_of s.tree) (IsNameOfType s known.terms known.nodes) chain p
-IsPlaceOf x chain None = (s : Sense) (table : Table) (known : AreSources s table x) → (m : TypeId) → Contains chain m → IsOfNoRule (rules_of s.tree) (IsNameOfType s known.terms known.nodes) m
+IsPlaceOf x chain None = (s : Sense) (table : Table) (known : AreSources s table x) → (m : Link) → Contains chain m → IsOfNoRule (rules_of s.tree) (IsNameOfType s known.terms known.nodes) m
 
 abbrev pub IsPlaced : Sources → Reason → Option Place → Type 0
 IsPlaced x r p = IsPlaceOf x (chain_of r) p

@@ -1,12 +1,13 @@
 //! What a reason says, as it is told.
 
 ghost use Rattle.std.specs.Prelude.{◌≡◌, ◌++◌, IfOk};
-ghost use Rattle.cddl_mismatch.specs.Causes.{chain_of, told_cause, type_in};
+ghost use Rattle.cddl_mismatch.specs.Causes.{chain_of, link_in, told_cause};
 
 use cddl_reasons::{Cause, Reason};
 use mismatch_words::Cause as Told;
 use std::alloc::{AllocError, Global};
-use table_nodes::{Content, TypeId};
+use table_nodes::Content;
+use type_links::Link;
 
 // The cause, without the types that it names.
 pub(crate) fn told_cause(cause: Cause) -> Told
@@ -32,29 +33,30 @@ fn nothing_held(content: Content) -> Told
     }
 }
 
-// The types that led to what the reason is about: those that were open, and the member's or the key's, where the cause has one.
-pub(crate) fn chain_of(alloc: Global, reason: &Reason) -> Result<Vec<TypeId>, AllocError>
+// What led to what the reason is about: the links to what was open, and the one to the member's or the key's type, where the cause
+// has one.
+pub(crate) fn chain_of(alloc: Global, reason: &Reason) -> Result<Vec<Link>, AllocError>
     ensures { IfOk result (λ chain. chain.items ≡ chain_of reason.now) }
 {
-    let mut chain = Vec::from_slice(alloc, &reason.types)?;
-    push_type(&mut chain, reason.cause)?;
+    let mut chain = Vec::from_slice(alloc, &reason.links)?;
+    push_link(&mut chain, reason.cause)?;
     Ok(chain)
 }
 
-fn push_type(chain: &mut Vec<TypeId>, cause: Cause) -> Result<(), AllocError>
-    ensures { IfOk result (λ _. chain.new.items ≡ chain.old.items ++ type_in cause) }
+fn push_link(chain: &mut Vec<Link>, cause: Cause) -> Result<(), AllocError>
+    ensures { IfOk result (λ _. chain.new.items ≡ chain.old.items ++ link_in cause) }
 {
     match cause {
         Cause::Missing { member } => {
-            chain.push(member)?;
+            chain.push(Link::Type(member))?;
             return Ok(());
         }
         Cause::Few { key, .. } => {
-            chain.push(key)?;
+            chain.push(Link::Type(key))?;
             return Ok(());
         }
         Cause::Many { key, .. } => {
-            chain.push(key)?;
+            chain.push(Link::Type(key))?;
             return Ok(());
         }
         Cause::Value => return Ok(()),

@@ -12,7 +12,7 @@ use Rattle.cddl_match.specs.Entering.{EndIn}
 use Rattle.cddl_match.specs.Open.{AreOpenWith, further}
 use Rattle.cddl_match.proofs.Lemmas.{comes_replies}
 use Rattle.cddl_reasons.specs.Opened.{asked_in, waits_in}
-use Rattle.cddl_reasons.specs.Told.{AreReasons, IsCause, IsCount, IsEntryOf, IsReason, key_of, string_of, strings_of, type_of, types_of}
+use Rattle.cddl_reasons.specs.Told.{AreReasons, IsCause, IsCount, IsEntryOf, IsReason, links_of, part_of, string_of, strings_of, type_of}
 use Rattle.cddl_reasons.specs.declared.causes.Cause.{Cause}
 use Rattle.cddl_reasons.specs.declared.causes.Cause.TheVariants as C
 use Rattle.cddl_reasons.specs.declared.causes.Reasons.{Reasons}
@@ -28,11 +28,11 @@ use Rattle.table_nodes.specs.declared.nodes.TypeId.{TypeId}
 pub open_replies : (l : Language TypeId GroupId) {first q : Question TypeId GroupId} {qs : List (Question TypeId GroupId)} {os : List (Pending TypeId GroupId)} {r : Reply} → AreOpenWith l first (q ∷ qs) os (Answered r) → (w : ℕ) × Replies l q r w
 open_replies l (further h c) = comes_replies l c M.at_once
 
-types_push : (os : List Open) (o : Open) → types_of (asked_in (os ++ o ∷ [])) (waits_in (os ++ o ∷ [])) ≡ types_of (asked_in os) (waits_in os) ++ (type_of (question_view o.question) ++ key_of (pending_view o.pending))
-types_push [] o = append-nil (type_of (question_view o.question) ++ key_of (pending_view o.pending))
-types_push (x ∷ xs) o =
-    let first = type_of (question_view x.question) ++ key_of (pending_view x.pending) in
-    ap (λ ts. first ++ ts) (types_push xs o) ∙ sym (append_assoc first (types_of (asked_in xs) (waits_in xs)) (type_of (question_view o.question) ++ key_of (pending_view o.pending)))
+links_push : (os : List Open) (o : Open) → links_of (asked_in (os ++ o ∷ [])) (waits_in (os ++ o ∷ [])) ≡ links_of (asked_in os) (waits_in os) ++ (type_of (question_view o.question) ++ part_of (pending_view o.pending))
+links_push [] o = append-nil (type_of (question_view o.question) ++ part_of (pending_view o.pending))
+links_push (x ∷ xs) o =
+    let first = type_of (question_view x.question) ++ part_of (pending_view x.pending) in
+    ap (λ ts. first ++ ts) (links_push xs o) ∙ sym (append_assoc first (links_of (asked_in xs) (waits_in xs)) (type_of (question_view o.question) ++ part_of (pending_view o.pending)))
 
 strings_append : (xs ys : List (Pending TypeId GroupId)) → strings_of (xs ++ ys) ≡ strings_of xs ++ strings_of ys
 strings_append [] ys = refl
@@ -42,11 +42,11 @@ strings_append (x ∷ xs) ys = ap (λ ts. string_of x ++ ts) (strings_append xs 
 one_more : (xs : List Open) (i : ℕ) (o : Open) → i < length xs → o ≡ get_or xs i o → take (i + 1) xs ≡ take i xs ++ o ∷ []
 one_more xs i o lt e = take_more xs i o lt ∙ ap (λ x. take i xs ++ x ∷ []) (sym e)
 
-pub types_more : (xs : List Open) (i : ℕ) (o : Open) → i < length xs → o ≡ get_or xs i o → types_of (asked_in (take (i + 1) xs)) (waits_in (take (i + 1) xs)) ≡ types_of (asked_in (take i xs)) (waits_in (take i xs)) ++ (type_of (question_view o.question) ++ key_of (pending_view o.pending))
-types_more xs i o lt e = ap (λ ys. types_of (asked_in ys) (waits_in ys)) (one_more xs i o lt e) ∙ types_push (take i xs) o
+pub links_more : (xs : List Open) (i : ℕ) (o : Open) → i < length xs → o ≡ get_or xs i o → links_of (asked_in (take (i + 1) xs)) (waits_in (take (i + 1) xs)) ≡ links_of (asked_in (take i xs)) (waits_in (take i xs)) ++ (type_of (question_view o.question) ++ part_of (pending_view o.pending))
+links_more xs i o lt e = ap (λ ys. links_of (asked_in ys) (waits_in ys)) (one_more xs i o lt e) ∙ links_push (take i xs) o
 
-pub types_whole : (xs : List Open) (i : ℕ) → length xs ≤ i → types_of (asked_in (take i xs)) (waits_in (take i xs)) ≡ types_of (asked_in xs) (waits_in xs)
-types_whole xs i le = ap (λ ys. types_of (asked_in ys) (waits_in ys)) (take_all i xs le)
+pub links_whole : (xs : List Open) (i : ℕ) → length xs ≤ i → links_of (asked_in (take i xs)) (waits_in (take i xs)) ≡ links_of (asked_in xs) (waits_in xs)
+links_whole xs i le = ap (λ ys. links_of (asked_in ys) (waits_in ys)) (take_all i xs le)
 
 pub strings_more : (xs : List Open) (i : ℕ) (o : Open) → i < length xs → o ≡ get_or xs i o → strings_of (waits_in (take (i + 1) xs)) ≡ strings_of (waits_in (take i xs)) ++ string_of (pending_view o.pending)
 strings_more xs i o lt e =

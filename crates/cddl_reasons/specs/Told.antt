@@ -14,27 +14,32 @@ use Rattle.table_nodes.specs.Nodes.{content_view}
 use Rattle.table_nodes.specs.declared.nodes.GroupId.{GroupId}
 use Rattle.table_nodes.specs.declared.nodes.TypeId.{TypeId}
 use Rattle.table_nodes.specs.declared.table.Table.{Table}
+use Rattle.type_links.specs.declared.link.Link.{Link}
+use Rattle.type_links.specs.declared.link.Link.TheVariants as L
 use Rattle.cddl_reasons.specs.declared.causes.Cause.{Cause}
 use Rattle.cddl_reasons.specs.declared.causes.Cause.TheVariants as C
 use Rattle.cddl_reasons.specs.declared.causes.Reason.{Reason}
 use Rattle.cddl_reasons.specs.declared.causes.Reasons.{Reasons}
 
 -- the type that is asked, if one is
-abbrev pub type_of : M.Question TypeId GroupId → List TypeId
-type_of (M.OfType n p x) = n ∷ []
+abbrev pub type_of : M.Question TypeId GroupId → List Link
+type_of (M.OfType n p x) = L.Type n ∷ []
 type_of (M.OfGroup g base q xs) = []
 type_of (M.OfAlternative es base ps) = []
 
--- the key type of the entry whose value is asked, if one's is
-abbrev pub key_of : M.Pending TypeId GroupId → List TypeId
-key_of (M.InValue e es s) = e.key_type ∷ []
-key_of _ = []
+-- What of it is asked: the value of an entry, of which the key type is told; an alternative of a group, or an entry of such an
+-- alternative, by how many come after it.
+abbrev pub part_of : M.Pending TypeId GroupId → List Link
+part_of (M.InValue e es s) = L.Type e.key_type ∷ []
+part_of (M.InAlternatives gs base place xs far) = L.Alternative (length gs) ∷ []
+part_of (M.InSequence gs base far) = L.Entry (length gs) ∷ []
+part_of _ = []
 
--- The types that are asked, by the questions and how each of them waits: the key type of an entry stands right before the type of
--- its value, which tells the entries of a map apart.
-abbrev pub types_of : List (M.Question TypeId GroupId) → List (M.Pending TypeId GroupId) → List TypeId
-types_of (q ∷ qs) (o ∷ os) = (type_of q ++ key_of o) ++ types_of qs os
-types_of _ _ = []
+-- What led to the last question, by the questions and how each of them waits: the key type of an entry stands right before the
+-- type of its value, which tells the entries of a map apart, and so do the entries of groups before the types that they ask.
+abbrev pub links_of : List (M.Question TypeId GroupId) → List (M.Pending TypeId GroupId) → List Link
+links_of (q ∷ qs) (o ∷ os) = (type_of q ++ part_of o) ++ links_of qs os
+links_of _ _ = []
 
 -- the place of the byte string whose content is asked about, if one's is
 abbrev pub string_of : M.Pending TypeId GroupId → List ℕ
@@ -95,7 +100,7 @@ pub record IsReason (l : Language TypeId GroupId) (first : M.Question TypeId Gro
   pub next : M.Move TypeId GroupId
   pub opened : AreOpenWith l first (last ∷ reverse before) (reverse waits ++ M.InRef ∷ []) next
   pub fails : (w : ℕ) × Replies l last (Fails r.place) w
-  pub types : r.types.items ≡ types_of before waits ++ type_of last
+  pub links : r.links.items ≡ links_of before waits ++ type_of last
   pub strings : r.strings.items ≡ strings_of waits
   pub cause : IsCause l last r.place r.cause
 

@@ -1,6 +1,7 @@
 //! What is told of an item that does not match.
 
 use table_nodes::{Content, TypeId};
+use type_links::Link;
 
 /// Why a question has failed that asks nothing else that fails there.
 #[derive(Clone, Copy)]
@@ -24,8 +25,9 @@ pub enum Cause {
 /// A question that has failed.
 #[derive(Drop)]
 pub struct Reason {
-    /// The types that are open there, the root type first. Right before the type of an entry's value stands the type of its key.
-    pub types: Vec<TypeId>,
+    /// What led there: the types that are open, the root type first, and the alternatives of groups and their entries before the
+    /// types that these ask. Right before the type of a map entry's value stands the type of its key.
+    pub links: Vec<Link>,
     /// The places of the byte strings in whose content that is, the outermost first. Each counts in the one before it.
     pub strings: Vec<usize>,
     /// Where it has failed: in the item, or in the content of the last of these strings.

@@ -15,6 +15,7 @@ use cddl_match::{Cells, Shelf, Verdict, verdict};
 use match_moves::{Question, Subject};
 use std::alloc::{AllocError, Global};
 use table_nodes::Table;
+use type_links::Link;
 
 // So often the questions are asked anew, where reasons are deeper: so many byte strings in byte strings are looked into, and
 // values of stray keys in each other.
@@ -129,11 +130,11 @@ fn root_reason(
     ensures { IfOk result (λ reason. (w : ℕ) → RootSays table.now item.now (Answer.No place) w → IsReason (language_of table.now) (root_question table.now item.now) reason) }
 {
     let _sound = item.item();
-    let mut types = Vec::new(alloc);
-    types.push(table.root())?;
+    let mut links = Vec::new(alloc);
+    links.push(Link::Type(table.root()))?;
     let strings = Vec::new(alloc);
     Ok(Reason {
-        types,
+        links,
         strings,
         place,
         cause: Cause::Value,

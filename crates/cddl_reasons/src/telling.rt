@@ -7,8 +7,8 @@ ghost use Rattle.cddl_meaning.specs.Forms as F;
 ghost use Rattle.cddl_meaning.specs.Judges as J;
 ghost use Rattle.cddl_meaning.specs.Moves as M;
 ghost use Rattle.cddl_reasons.specs.Opened.{StandsAt, asked_in, waits_in};
-ghost use Rattle.cddl_reasons.specs.Told.{IsCause, IsCount, IsEntryOf, IsReason, key_of, string_of, strings_of, type_of, types_of};
-ghost use Rattle.match_moves.specs.Views.{pending_view, question_view, reply_view, values};
+ghost use Rattle.cddl_reasons.specs.Told.{IsCause, IsCount, IsEntryOf, IsReason, links_of, part_of, string_of, strings_of, type_of};
+ghost use Rattle.match_moves.specs.Views.{pending_group_view, pending_map_view, pending_view, question_view, reply_view, values};
 ghost use Rattle.table_nodes.specs.Language.{language_of};
 ghost use Rattle.table_nodes.specs.Nodes.{entries_view, entry_view};
 ghost use Rattle.table_nodes.specs.declared.nodes.GroupId.{GroupId};
@@ -19,17 +19,18 @@ use crate::causes::{Cause, Reason};
 use crate::found::{Deeper, Found};
 use crate::run::{Open, Run, Wanted};
 use item_nodes::Item;
-use match_moves::{Counts, Pending, PendingMap, PendingType, Question, Reply};
+use match_moves::{Counts, Pending, PendingGroup, PendingMap, PendingType, Question, Reply};
 use std::alloc::{AllocError, Global};
 use table_nodes::{Group, GroupId, MapEntry, Most, Node, Table, TypeId};
+use type_links::Link;
 
 // The type that is asked, if one is, is put behind others.
-fn push_type(types: &mut Vec<TypeId>, question: &Question<'_, '_>) -> Result<(), AllocError>
-    ensures { IfOk result (λ _. types.new.items ≡ types.old.items ++ type_of (question_view question.now)) }
+fn push_type(links: &mut Vec<Link>, question: &Question<'_, '_>) -> Result<(), AllocError>
+    ensures { IfOk result (λ _. links.new.items ≡ links.old.items ++ type_of (question_view question.now)) }
 {
     match question {
         Question::OfType { node, .. } => {
-            types.push(*node)?;
+            links.push(Link::Type(*node))?;
             return Ok(());
         }
         Question::OfGroup { .. } => return Ok(()),
@@ -38,25 +39,55 @@ fn push_type(types: &mut Vec<TypeId>, question: &Question<'_, '_>) -> Result<(),
 }
 
 // The key type of the entry whose value is asked, if one's is, is put behind others.
-fn push_key(types: &mut Vec<TypeId>, pending: &Pending<'_, '_>) -> Result<(), AllocError>
-    ensures { IfOk result (λ _. types.new.items ≡ types.old.items ++ key_of (pending_view pending.now)) }
+fn push_key(links: &mut Vec<Link>, pending: &PendingMap<'_, '_>) -> Result<(), AllocError>
+    ensures { IfOk result (λ _. links.new.items ≡ links.old.items ++ part_of (pending_map_view pending.now)) }
 {
-    if let Pending::Map(PendingMap::Value { entry, .. }) = pending {
-        types.push(entry.key_type)?;
+    if let PendingMap::Value { entry, .. } = pending {
+        links.push(Link::Type(entry.key_type))?;
     }
     Ok(())
 }
 
-// The types that are asked, the first one first, and before that of an entry's value the entry's key.
-fn types_in(alloc: Global, below: &[Open<'_, '_>]) -> Result<Vec<TypeId>, AllocError>
-    ensures { IfOk result (λ types. types.items ≡ types_of (asked_in below.now) (waits_in below.now)) }
+// The alternative of a group that is asked, or the entry of such an alternative, if one is, is put behind others.
+fn push_entry(links: &mut Vec<Link>, pending: &PendingGroup<'_, '_>) -> Result<(), AllocError>
+    ensures { IfOk result (λ _. links.new.items ≡ links.old.items ++ part_of (pending_group_view pending.now)) }
 {
-    let mut types = Vec::new(alloc);
-    for waiting in below {
-        push_type(&mut types, &waiting.question)?;
-        push_key(&mut types, &waiting.pending)?;
+    match pending {
+        PendingGroup::Sequence { parts, .. } => {
+            links.push(Link::Entry { after: parts.len() })?;
+            return Ok(());
+        }
+        PendingGroup::Alternatives { parts, .. } => {
+            links.push(Link::Alternative { after: parts.len() })?;
+            return Ok(());
+        }
+        PendingGroup::Entry { .. } => return Ok(()),
+        PendingGroup::Repeat(_) => return Ok(()),
     }
-    Ok(types)
+}
+
+// What is asked of a question, if that is told, is put behind others.
+fn push_part(links: &mut Vec<Link>, pending: &Pending<'_, '_>) -> Result<(), AllocError>
+    ensures { IfOk result (λ _. links.new.items ≡ links.old.items ++ part_of (pending_view pending.now)) }
+{
+    match pending {
+        Pending::Map(map) => push_key(links, map),
+        Pending::Group(group) => push_entry(links, group),
+        Pending::Type(_) => Ok(()),
+        Pending::Ref => Ok(()),
+    }
+}
+
+// What led to the question after these, the first one first.
+fn links_in(alloc: Global, below: &[Open<'_, '_>]) -> Result<Vec<Link>, AllocError>
+    ensures { IfOk result (λ links. links.items ≡ links_of (asked_in below.now) (waits_in below.now)) }
+{
+    let mut links = Vec::new(alloc);
+    for waiting in below {
+        push_type(&mut links, &waiting.question)?;
+        push_part(&mut links, &waiting.pending)?;
+    }
+    Ok(links)
 }
 
 // The place of the byte string whose content is asked about, if one's is, is put behind others.
@@ -230,11 +261,11 @@ fn reason_of(
     ensures { IfOk result (λ reason. (first : M.Question TypeId GroupId) → IsCause (language_of table.now) (question_view run.now.last.question) far cause → StandsAt (language_of table.now) first run.now.below.items run.now.last (M.Answered (J.Fails far)) → IsReason (language_of table.now) first reason) }
 {
     let below = run.below.as_slice();
-    let mut types = types_in(alloc, below)?;
-    push_type(&mut types, &run.last.question)?;
+    let mut links = links_in(alloc, below)?;
+    push_type(&mut links, &run.last.question)?;
     let strings = strings_in(alloc, below)?;
     Ok(Reason {
-        types,
+        links,
         strings,
         place: far,
         cause,

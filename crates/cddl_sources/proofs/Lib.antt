@@ -2,6 +2,7 @@ mod Adding
 mod Nodes
 mod Rules
 mod Ending
+mod Listing
 mod Growing
 mod Copying
 mod Reading

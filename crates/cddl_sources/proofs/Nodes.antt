@@ -31,7 +31,7 @@ use Rattle.tree_nodes.specs.declared.tree.Type2.TheVariants as Type2V
 use Rattle.tree_nodes.specs.declared.tree.GrpEnt.TheViews.{out-Types, out-GenericArg, out-Group, out-GrpChoice}
 use Rattle.tree_nodes.specs.View.{view_type1, view_type2, view_ref, view_key, view_grpent, view_rule, view_value, view_further, view_entry, view_choice, view_types, view_arg, view_group, with_types, with_arguments, with_entries, with_choices}
 use Rattle.tree_nodes.proofs.Lemmas.{view-Name, view-Applied, view-One, view-Operation, view-Literal, view-Typename, view-Parens, view-MapOf, view-ArrayOf, view-Unwrapped, view-ChoiceOf, view-ChoiceOfName, view-Tagged, view-TaggedBy, view-SimpleBy, view-Hash, view-Typed, view-Keyed, view-Grouped, view-TypeKey, view-Bareword, view-ValueKey, view-Entry, view-Further, view_out-GrpChoice, view_out-Types, view_out-GenericArg, view_out-Group}
-use Rattle.cddl_sources.specs.Pieces.{Piece, a_type, a_value, a_word, key_piece, operand, in_types, in_members, in_type1, in_type2, in_ref, in_arguments, in_group, in_entries, in_entry, in_key, in_rule}
+use Rattle.cddl_sources.specs.Pieces.{Piece, a_type, a_value, a_word, entries_in, key_piece, operand, in_types, in_members, in_type1, in_type2, in_ref, in_arguments, in_group, in_entries, in_entry, in_key, in_rule}
 use Rattle.cddl_sources.specs.Walk.{further_pieces, entry_pieces, choice_pieces}
 
 whole : (t : S.Types) → in_types t ≡ a_type t ∷ in_members t
@@ -123,8 +123,8 @@ module _ (read : Leaf → Token) where
   pub map_pieces : (x : Type2) (o : Leaf) (g : Group) (c : Leaf) → x ≡ Type2V.MapOf o g c → in_type2 (view_type2 read x) ≡ operand (view_type2 read x) ∷ in_group (view_group read g)
   map_pieces x o g c is = seen x _ _ (in_group (view_group read g)) is (view-MapOf read o g c) refl
 
-  pub array_pieces : (x : Type2) (o : Leaf) (g : Group) (c : Leaf) → x ≡ Type2V.ArrayOf o g c → in_type2 (view_type2 read x) ≡ operand (view_type2 read x) ∷ in_group (view_group read g)
-  array_pieces x o g c is = seen x _ _ (in_group (view_group read g)) is (view-ArrayOf read o g c) refl
+  pub array_pieces : (x : Type2) (o : Leaf) (g : Group) (c : Leaf) → x ≡ Type2V.ArrayOf o g c → in_type2 (view_type2 read x) ≡ operand (view_type2 read x) ∷ (entries_in (read o) (read c) 0 (view_group read g) ++ in_group (view_group read g))
+  array_pieces x o g c is = seen x _ _ (entries_in (read o) (read c) 0 (view_group read g) ++ in_group (view_group read g)) is (view-ArrayOf read o g c) refl
 
   pub unwrapped_pieces : (x : Type2) (u : Leaf) (r : Ref) → x ≡ Type2V.Unwrapped u r → in_type2 (view_type2 read x) ≡ operand (view_type2 read x) ∷ in_ref (view_ref read r)
   unwrapped_pieces x u r is = seen x _ _ (in_ref (view_ref read r)) is (view-Unwrapped read u r) refl
@@ -171,7 +171,7 @@ module _ (read : Leaf → Token) where
       ∙ ap (λ (w : MemberKey). in_key (view_key read w) ++ (a_value (key_piece (view_key read k.value)) (view_types read t) ∷ in_types (view_types read t))) (sym e)
       ∙ ap (λ (w : MemberKey). in_key (view_key read y) ++ (a_value (key_piece (view_key read w)) (view_types read t) ∷ in_types (view_types read t))) (sym f)
 
-  pub grouped_pieces : (x : GrpEnt) (o : Option Leaf) (p : Leaf) (g : Group) (c : Leaf) → x ≡ GrpEntV.Grouped o p g c → in_entry (view_grpent read x) ≡ in_group (view_group read g)
+  pub grouped_pieces : (x : GrpEnt) (o : Option Leaf) (p : Leaf) (g : Group) (c : Leaf) → x ≡ GrpEntV.Grouped o p g c → in_entry (view_grpent read x) ≡ entries_in (read p) (read c) 0 (view_group read g) ++ in_group (view_group read g)
   grouped_pieces x o p g c is = seen_entry x _ _ is (view-Grouped read o p g c)
 
   seen_key : (x y : MemberKey) (v : S.MemberKey) → x ≡ y → view_key read y ≡ v → in_key (view_key read x) ≡ in_key v

@@ -20,8 +20,8 @@ use Rattle.check_terms.specs.declared.row.Row.{Row}
 use Rattle.check_terms.specs.Table.{Grows, Holds, part, Table}
 use Rattle.check_terms.specs.Trees.{IsEntry, IsTerm, term_tree}
 use Rattle.table_making.specs.declared.origin.TypeOrigin.{TypeOrigin}
-use Rattle.cddl_sources.specs.Origins.{AreRead, IsKeyOf, IsOriginOf, IsRead, of_type, of_value, of_word}
-use Rattle.cddl_sources.specs.Pieces.{Piece, a_type, a_value, a_word}
+use Rattle.cddl_sources.specs.Origins.{AreRead, IsKeyOf, IsOriginOf, IsRead, MayBeOf, is_of, no_type, of_type, of_value, of_word}
+use Rattle.cddl_sources.specs.Pieces.{Piece, a_type, a_value, a_word, an_entry}
 use Rattle.cddl_sources.specs.Sources.{AreRules, IsRuleAt}
 use Rattle.cddl_sources.specs.declared.node.Found.{Found}
 use Rattle.cddl_sources.specs.declared.piece.PieceAt.{PieceAt}
@@ -33,15 +33,20 @@ origin_kept old new p o g (of_type h) = of_type (kept g h)
 origin_kept old new p o g (of_word {w = w} {k = k} e) = of_word (g.texts k _ e)
 origin_kept old new p o g (of_value h) = of_value (kept g h)
 
+pub may_kept : (old new : Table) (p : Piece) (o : Option TypeOrigin) → Grows old new → MayBeOf old p o → MayBeOf new p o
+may_kept old new p o g (is_of h) = is_of (origin_kept old new p _ g h)
+may_kept old new p o g no_type = no_type
+
 key_kept : (old new : Table) (p : Piece) (o : Option TypeOrigin) → Grows old new → IsKeyOf old p o → IsKeyOf new p o
-key_kept old new (a_value k x) o g h = (h.0, h.1, origin_kept old new k h.0 g h.2)
+key_kept old new (a_value k x) o g h = may_kept old new k o g h
 key_kept old new (a_type x) o g h = h
 key_kept old new (a_word w) o g h = h
+key_kept old new (an_entry a c k i e) o g h = h
 
 read_kept : (old new : Table) (read : Leaf → Token) (f : Found) (a : PieceAt) → Grows old new → IsRead old read f a → IsRead new read f a
 read_kept old new read f a g h = record {
   rule = h.rule;
-  is = record { origin = origin_kept old new _ a.origin g h.is.origin; key = key_kept old new _ a.key g h.is.key; span = h.is.span };
+  is = record { origin = may_kept old new _ a.origin g h.is.origin; key = key_kept old new _ a.key g h.is.key; entry = h.is.entry; span = h.is.span };
 }
 
 pub none_read : (t : Table) (read : Leaf → Token) → AreRead t read [] []

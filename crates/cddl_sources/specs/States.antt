@@ -1,16 +1,19 @@
--- What types that led to one another have led to, by numbers.
+-- What links have led to, by numbers.
 use Rattle.std.specs.Prelude.{◌≡◌, ℕ, Bool, true, false, List, [], ◌∷◌, ◌++◌, Contains, Option, Some, None, option_map, slice_get}
 use Rattle.check_terms.specs.declared.row.Row.{Row}
 use Rattle.check_instances.specs.declared.closed.closed.Meaning.{Meaning}
 use Rattle.table_making.specs.declared.origin.TypeOrigin.{TypeOrigin}
 use Rattle.table_making.specs.declared.origin.TypeOrigin.TheVariants as T
-use Rattle.table_nodes.specs.declared.nodes.TypeId.{TypeId}
+use Rattle.type_links.specs.declared.link.Link.{Link}
+use Rattle.type_links.specs.declared.link.Link.TheVariants as L
 use Rattle.cddl_sources.specs.Spans.{IsWithin, Spot}
+use Rattle.cddl_sources.specs.declared.piece.EntryAt.{EntryAt}
 use Rattle.cddl_sources.specs.declared.piece.PieceAt.{PieceAt}
 use Rattle.cddl_sources.specs.declared.place.Place.{Place}
 use Rattle.cddl_sources.specs.declared.place.State.{State}
 use Rattle.cddl_sources.specs.declared.sources.RuleAt.{RuleAt}
 use Rattle.cddl_sources.specs.declared.sources.Sources.{Sources}
+use Rattle.cddl_sources.specs.declared.span.Span.{Span}
 
 -- the number of the name of an instance, by the row of its reference
 
@@ -31,8 +34,14 @@ abbrev pub number_in : List (Option ℕ) → Option TypeOrigin → Option ℕ
 number_in ns (Some (T.Instance k)) = flattened (slice_get ns k)
 number_in ns _ = None
 
-abbrev pub number_at : Sources → TypeId → Option ℕ
-number_at x m = number_in x.numbers.items (slice_get x.origins.items m.number)
+-- what the type is of to which the link is
+abbrev pub origin_at : Sources → Link → Option TypeOrigin
+origin_at x (L.Type m) = slice_get x.origins.items m.number
+origin_at x (L.Alternative k) = None
+origin_at x (L.Entry k) = None
+
+abbrev pub number_at : Sources → Link → Option ℕ
+number_at x m = number_in x.numbers.items (origin_at x m)
 
 -- the rule at the place i has this number
 pub record HasNumber (x : Sources) (i n : ℕ) : Type 0 where
@@ -40,15 +49,15 @@ pub record HasNumber (x : Sources) (i n : ℕ) : Type 0 where
   pub there : slice_get x.rules.items i ≡ Some at
   pub same : at.number ≡ n
 
--- the type is an instance of no rule of the text
-abbrev pub HasNoRule : Sources → TypeId → Type 0
+-- the link is to an instance of no rule of the text
+abbrev pub HasNoRule : Sources → Link → Type 0
 HasNoRule x m = (n i : ℕ) → number_at x m ≡ Some n → HasNumber x i n → ⊥
 
 -- a place that is of this origin, in a rule with this number
 pub record IsOfOrigin (x : Sources) (n : ℕ) (o : TypeOrigin) (a : PieceAt) : Type 0 where
   pub contained : Contains x.pieces.items a
   pub named : HasNumber x a.rule n
-  pub same : a.origin ≡ o
+  pub same : a.origin ≡ Some o
 
 abbrev pub spot_of : PieceAt → Spot
 spot_of a = record { rule = a.rule; span = a.span }
@@ -57,64 +66,91 @@ spot_of a = record { rule = a.rule; span = a.span }
 abbrev pub IsInside : Option PieceAt → PieceAt → Type 0
 IsInside from a = IsWithin (option_map spot_of from) (spot_of a)
 
--- it is of this type
-pub record IsTypeIn (x : Sources) (n : ℕ) (from : Option PieceAt) (m : TypeId) (a : PieceAt) : Type 0 where
+-- it is of the type to which the link is
+pub record IsTypeIn (x : Sources) (n : ℕ) (from : Option PieceAt) (m : Link) (a : PieceAt) : Type 0 where
   pub origin : TypeOrigin
-  pub there : slice_get x.origins.items m.number ≡ Some origin
+  pub there : origin_at x m ≡ Some origin
   pub is : IsOfOrigin x n origin a
   pub inside : IsInside from a
 
 -- it is of the second type, the value of an entry whose key is of the first
-pub record IsValueIn (x : Sources) (n : ℕ) (from : Option PieceAt) (key m : TypeId) (a : PieceAt) : Type 0 where
+pub record IsValueIn (x : Sources) (n : ℕ) (from : Option PieceAt) (key m : Link) (a : PieceAt) : Type 0 where
   pub origin : TypeOrigin
-  pub there : slice_get x.origins.items key.number ≡ Some origin
+  pub there : origin_at x key ≡ Some origin
   pub same : a.key ≡ Some origin
   pub is : IsTypeIn x n from m a
 
-abbrev pub HasNoValueIn : Sources → ℕ → Option PieceAt → TypeId → List TypeId → Type 0
-HasNoValueIn x n from m [] = Unit {0}
-HasNoValueIn x n from m (v ∷ ms) = (a : PieceAt) → IsValueIn x n from m v a → ⊥
+-- it is an entry in the brackets that are the ends of this part of the text
+pub record IsEntryWith (around : Span) (alternative place : ℕ) (a : PieceAt) : Type 0 where
+  pub entry : EntryAt
+  pub there : a.entry ≡ Some entry
+  pub opens : entry.around.first ≡ around.first
+  pub closes : entry.around.end ≡ around.end
+  pub same_alternative : entry.alternative ≡ alternative
+  pub same_place : entry.place ≡ place
 
--- Types lead from what was found before to what is found then.
-pub data LeadsIn (x : Sources) (n : ℕ) : Option PieceAt → List TypeId → Option PieceAt → Type 0 where
+-- the same, in a rule with this number, and within what was found before
+pub record IsEntryIn (x : Sources) (n : ℕ) (from : Option PieceAt) (around : Span) (alternative place : ℕ) (a : PieceAt) : Type 0 where
+  pub contained : Contains x.pieces.items a
+  pub named : HasNumber x a.rule n
+  pub inside : IsInside from a
+  pub is : IsEntryWith around alternative place a
+
+-- it is an entry in the brackets that are the ends of what was found before
+pub record IsEntryOf (x : Sources) (n : ℕ) (from : Option PieceAt) (alternative place : ℕ) (a : PieceAt) : Type 0 where
+  pub around : PieceAt
+  pub is_around : from ≡ Some around
+  pub is : IsEntryIn x n from around.span alternative place a
+
+-- two links lead to it together
+pub data ArePairIn (x : Sources) (n : ℕ) (from : Option PieceAt) : Link → Link → PieceAt → Type 0 where
+  of_value : {key m : Link} {a : PieceAt} → IsValueIn x n from key m a → ArePairIn x n from key m a
+  of_entry : {k i : ℕ} {a : PieceAt} → IsEntryOf x n from k i a → ArePairIn x n from (L.Alternative k) (L.Entry i) a
+
+abbrev pub AreNoPairIn : Sources → ℕ → Option PieceAt → Link → List Link → Type 0
+AreNoPairIn x n from m [] = Unit {0}
+AreNoPairIn x n from m (v ∷ ms) = (a : PieceAt) → ArePairIn x n from m v a → ⊥
+
+-- Links lead from what was found before to what is found then.
+pub data LeadsIn (x : Sources) (n : ℕ) : Option PieceAt → List Link → Option PieceAt → Type 0 where
   arrives : {from : Option PieceAt} → LeadsIn x n from [] from
-  to_value : {from to : Option PieceAt} {key m : TypeId} {ms : List TypeId} {a : PieceAt} → IsValueIn x n from key m a → LeadsIn x n (Some a) ms to → LeadsIn x n from (key ∷ m ∷ ms) to
-  to_type : {from to : Option PieceAt} {m : TypeId} {ms : List TypeId} {a : PieceAt} → HasNoValueIn x n from m ms → IsTypeIn x n from m a → LeadsIn x n (Some a) ms to → LeadsIn x n from (m ∷ ms) to
-  passes : {from to : Option PieceAt} {m : TypeId} {ms : List TypeId} → HasNoValueIn x n from m ms → ((a : PieceAt) → IsTypeIn x n from m a → ⊥) → LeadsIn x n from ms to → LeadsIn x n from (m ∷ ms) to
+  to_pair : {from to : Option PieceAt} {key m : Link} {ms : List Link} {a : PieceAt} → ArePairIn x n from key m a → LeadsIn x n (Some a) ms to → LeadsIn x n from (key ∷ m ∷ ms) to
+  to_type : {from to : Option PieceAt} {m : Link} {ms : List Link} {a : PieceAt} → AreNoPairIn x n from m ms → IsTypeIn x n from m a → LeadsIn x n (Some a) ms to → LeadsIn x n from (m ∷ ms) to
+  passes : {from to : Option PieceAt} {m : Link} {ms : List Link} → AreNoPairIn x n from m ms → ((a : PieceAt) → IsTypeIn x n from m a → ⊥) → LeadsIn x n from ms to → LeadsIn x n from (m ∷ ms) to
 
--- the type that is held back, if one is, before the others
-abbrev pub with_held : Option TypeId → List TypeId → List TypeId
+-- the link that is held back, if one is, before the others
+abbrev pub with_held : Option Link → List Link → List Link
 with_held None ms = ms
 with_held (Some m) ms = m ∷ ms
 
--- Where the types lead to with others after them, what was found leads to by the held one and these.
-abbrev pub IsFoundAfter : Sources → State → List TypeId → Type 0
-IsFoundAfter x st ids = (rest : List TypeId) (to : Option PieceAt) → LeadsIn x st.number st.found (with_held st.held rest) to → LeadsIn x st.number None (ids ++ rest) to
+-- Where the links lead to with others after them, what was found leads to by the held one and these.
+abbrev pub IsFoundAfter : Sources → State → List Link → Type 0
+IsFoundAfter x st ids = (rest : List Link) (to : Option PieceAt) → LeadsIn x st.number st.found (with_held st.held rest) to → LeadsIn x st.number None (ids ++ rest) to
 
--- Types that were passed over: none, or they begin with an instance.
-abbrev pub ArePassed : Sources → Bool → List TypeId → Type 0
+-- Links that were passed over: none, or they begin with an instance.
+abbrev pub ArePassed : Sources → Bool → List Link → Type 0
 ArePassed x true ids = ids ≡ []
-ArePassed x false ids = (m : TypeId) × (ms : List TypeId) × (k : ℕ) × (ids ≡ m ∷ ms) × (slice_get x.origins.items m.number ≡ Some (T.Instance k))
+ArePassed x false ids = (m : Link) × (ms : List Link) × (k : ℕ) × (ids ≡ m ∷ ms) × (origin_at x m ≡ Some (T.Instance k))
 
--- The state is of the last of the types that is an instance of a rule of the text, and of those after it up to the next instance.
-pub record IsStateAfter (x : Sources) (ids : List TypeId) (st : State) : Type 0 where
-  pub before : List TypeId
-  pub instance : TypeId
-  pub inside : List TypeId
-  pub outside : List TypeId
+-- The state is of the last of the links that is to an instance of a rule of the text, and of those after it up to the next instance.
+pub record IsStateAfter (x : Sources) (ids : List Link) (st : State) : Type 0 where
+  pub before : List Link
+  pub instance : Link
+  pub inside : List Link
+  pub outside : List Link
   pub split : ids ≡ before ++ instance ∷ (inside ++ outside)
   pub number : number_at x instance ≡ Some st.number
   pub rule : HasNumber x st.rule st.number
-  pub last : (m : TypeId) → Contains (inside ++ outside) m → HasNoRule x m
+  pub last : (m : Link) → Contains (inside ++ outside) m → HasNoRule x m
   pub passed : ArePassed x st.is_inside outside
   pub found : IsFoundAfter x st inside
 
-abbrev pub IsStateOf : Sources → List TypeId → Option State → Type 0
-IsStateOf x ids None = (m : TypeId) → Contains ids m → HasNoRule x m
+abbrev pub IsStateOf : Sources → List Link → Option State → Type 0
+IsStateOf x ids None = (m : Link) → Contains ids m → HasNoRule x m
 IsStateOf x ids (Some st) = IsStateAfter x ids st
 
--- the type begins with this state
-pub record IsStarted (x : Sources) (m : TypeId) (st : State) : Type 0 where
+-- the link begins with this state
+pub record IsStarted (x : Sources) (m : Link) (st : State) : Type 0 where
   pub number : number_at x m ≡ Some st.number
   pub rule : HasNumber x st.rule st.number
   pub inside : st.is_inside ≡ true

@@ -1,5 +1,5 @@
 -- What one step of the walk over a tree adds to the list of pieces.
-use Rattle.std.specs.Prelude.{◌≡◌, ℕ, List, ◌++◌, map}
+use Rattle.std.specs.Prelude.{◌≡◌, ℕ, List, [], ◌∷◌, ◌++◌, length, map}
 use Rattle.std.specs.List.{flat_map}
 use Rattle.cddl_token.specs.declared.Token.{Token}
 use Rattle.tree_nodes.specs.Syntax.Syntax as S
@@ -9,10 +9,11 @@ use Rattle.tree_nodes.specs.declared.tree.Further.{Further}
 use Rattle.tree_nodes.specs.declared.tree.GrpChoice.{GrpChoice}
 use Rattle.tree_nodes.specs.declared.tree.GrpEnt.TheViews.{out-GrpChoice}
 use Rattle.tree_nodes.specs.View.{view_grpent, view_key, view_type1, view_type2, view_types, view_value}
+use Rattle.cddl_sources.specs.declared.node.Brackets.{Brackets}
 use Rattle.cddl_sources.specs.declared.node.Found.{Found}
 use Rattle.cddl_sources.specs.declared.node.Node.{Node}
 use Rattle.cddl_sources.specs.declared.node.Node.TheVariants as NodeV
-use Rattle.cddl_sources.specs.Pieces.{Piece, a_type, a_value, a_word, in_entry, in_type1, key_piece, operand, placed}
+use Rattle.cddl_sources.specs.Pieces.{Piece, a_type, a_value, a_word, an_entry, in_entry, in_type1, key_piece, operand, placed}
 
 abbrev pub view_node : (Leaf → Token) → Node → Piece
 view_node read (NodeV.Choice t) = a_type (view_types read t.now)
@@ -21,6 +22,7 @@ view_node read (NodeV.Operand t) = operand (view_type2 read t.now)
 view_node read (NodeV.Literal v) = operand (S.literal (view_value read v))
 view_node read (NodeV.Word l) = a_word (read l)
 view_node read (NodeV.Value k t) = a_value (key_piece (view_key read k.now)) (view_types read t.now)
+view_node read (NodeV.Entry e) = an_entry (read e.brackets.opening) (read e.brackets.closing) e.alternative e.place (view_grpent read e.entry.now)
 
 -- with the place of its rule
 abbrev pub view_found : (Leaf → Token) → Found → ℕ × Piece
@@ -40,3 +42,13 @@ entry_pieces read e = in_entry (view_grpent read e.grpent)
 
 abbrev pub choice_pieces : (Leaf → Token) → GrpChoice → List Piece
 choice_pieces read c = flat_map (entry_pieces read) (out-GrpChoice c).entries.items
+
+-- The entries of a list that are left, and of further choices that are left, with what comes after each in its list.
+
+abbrev pub listed_entries : (Leaf → Token) → Brackets → (alternative : ℕ) → List Entry → List Piece
+listed_entries read b k [] = []
+listed_entries read b k (e ∷ es) = an_entry (read b.opening) (read b.closing) k (length es) (view_grpent read e.grpent) ∷ listed_entries read b k es
+
+abbrev pub listed_choices : (Leaf → Token) → Brackets → List GrpChoice → List Piece
+listed_choices read b [] = []
+listed_choices read b (c ∷ cs) = listed_entries read b (length cs) (out-GrpChoice c).entries.items ++ listed_choices read b cs

@@ -2,6 +2,7 @@
 #![tactic(auto)]
 
 mod copies;
+mod entries;
 mod node;
 mod origin;
 mod piece;

@@ -1,4 +1,4 @@
-//! What stands in the text of a rule: a type, or a word that is a key, with the node of the tree that it is.
+//! What stands in the text of a rule: a type, a word that is a key, or an entry of a group, with the node of the tree that it is.
 
 ghost use Rattle.std.specs.Prelude.{◌≡◌};
 ghost use Rattle.cddl_token.specs.declared.Token.{Token};
@@ -7,9 +7,27 @@ ghost use Rattle.tree_nodes.specs.declared.tree.Leaf.{Leaf as ALeaf};
 ghost use Rattle.cddl_sources.specs.Pieces.{key_piece};
 ghost use Rattle.cddl_sources.specs.Walk.{view_node};
 
-use tree_nodes::{Leaf, MemberKey, Type1, Type2, Types, Value};
+use tree_nodes::{GrpEnt, Leaf, MemberKey, Type1, Type2, Types, Value};
 
-// A node of the tree that is a type, or a word that is a key.
+// The tokens round a group.
+#[derive(Clone, Copy)]
+pub(crate) struct Brackets {
+    pub(crate) opening: Leaf,
+    pub(crate) closing: Leaf,
+}
+
+// An entry of a group in brackets.
+#[derive(Clone, Copy)]
+pub(crate) struct EntryNode<'t> {
+    pub(crate) brackets: Brackets,
+    // So many alternatives come after its own.
+    pub(crate) alternative: usize,
+    // So many entries come after it in its alternative.
+    pub(crate) place: usize,
+    pub(crate) entry: &'t GrpEnt,
+}
+
+// A node of the tree that is a type, a word that is a key, or an entry.
 #[derive(Clone, Copy)]
 pub(crate) enum Node<'t> {
     /// All of a choice, also of one member.
@@ -23,6 +41,8 @@ pub(crate) enum Node<'t> {
     Word(Leaf),
     /// The type of the value in an entry that has this key.
     Value(&'t MemberKey, &'t Types),
+    /// An entry of an array, or of a group in parentheses.
+    Entry(EntryNode<'t>),
 }
 
 // A node, and the place of its rule in the list of rules, from 0.

@@ -1,4 +1,5 @@
-//! What a type of the table is of that is a node of the tree: the number of its row, or of the word's text.
+//! What a type of the table is of that is a node of the tree: the number of its row, or of the word's text; and where an entry stands
+//! in its group.
 
 ghost use Rattle.std.specs.Prelude.{◌≡◌, ◌++◌, [], ◌∷◌, IfOk, IfSome, None, OnOk, Some};
 ghost use Rattle.cddl_language.specs.Reading.{literal_of, term_of, term_of1, text_of};
@@ -6,12 +7,12 @@ ghost use Rattle.cddl_language.specs.Terms.{Term, typed};
 ghost use Rattle.check_terms.specs.Table.{Grows, Holds, node, nothing};
 ghost use Rattle.check_terms.specs.Trees.{IsEntry, IsTerm, literal_tree};
 ghost use Rattle.tree_nodes.specs.View.{token_of, view_type1, view_types, view_value};
-ghost use Rattle.cddl_sources.specs.Origins.{AreRead, IsKeyOf, IsOriginOf};
+ghost use Rattle.cddl_sources.specs.Origins.{AreRead, IsKeyOf, MayBeIn, MayBeOf};
 ghost use Rattle.cddl_sources.specs.Walk.{view_node};
 
 use crate::node::{Found, Node, key_node};
-use crate::piece::PieceAt;
-use crate::span::node_span;
+use crate::piece::{EntryAt, PieceAt};
+use crate::span::{brackets_span, node_span};
 use check_reading::reader::{read_operand, read_operation, read_type_entry};
 use check_terms::laws::growing_keeps;
 use check_terms::{Form, NoRoom, Terms};
@@ -39,6 +40,7 @@ pub(crate) fn pieces_of<'s>(
             rule: node.rule,
             origin,
             key,
+            entry: entry_at(tree, node.node),
             span: node_span(tree, node.node),
         };
         push(&mut pieces, piece)?;
@@ -65,31 +67,52 @@ fn key_origin<'s>(
     ensures key { IfOk result (λ o. IsKeyOf terms.new (view_node (token_of tree.now) node.entry) o) }
 {
     match node {
-        Node::Value(key, _) => Ok(Some(node_origin(terms, tree, key_node(key))?)),
+        Node::Value(key, _) => node_origin(terms, tree, key_node(key)),
         Node::Choice(_) => Ok(None),
         Node::Operation(_) => Ok(None),
         Node::Operand(_) => Ok(None),
         Node::Literal(_) => Ok(None),
         Node::Word(_) => Ok(None),
+        Node::Entry(_) => Ok(None),
     }
 }
 
-// The row of a type, or the text of a word.
+// Where an entry stands in its group.
+fn entry_at(tree: &Tree<'_>, node: Node<'_>) -> Option<EntryAt>
+    ensures { MayBeIn (view_node (token_of tree.now) node.entry) result }
+{
+    match node {
+        Node::Entry(entry) => Some(EntryAt {
+            around: brackets_span(tree, entry.brackets),
+            alternative: entry.alternative,
+            place: entry.place,
+        }),
+        Node::Choice(_) => None,
+        Node::Operation(_) => None,
+        Node::Operand(_) => None,
+        Node::Literal(_) => None,
+        Node::Word(_) => None,
+        Node::Value(_, _) => None,
+    }
+}
+
+// The row of a type, or the text of a word; nothing for an entry.
 fn node_origin<'s>(
     terms: &mut Terms<'s>,
     tree: &Tree<'s>,
     node: Node<'_>,
-) -> Result<TypeOrigin, NoRoom>
+) -> Result<Option<TypeOrigin>, NoRoom>
     ensures grows { Grows terms.old terms.new }
-    ensures origin { IfOk result (λ o. IsOriginOf terms.new (view_node (token_of tree.now) node.entry) o) }
+    ensures origin { IfOk result (λ o. MayBeOf terms.new (view_node (token_of tree.now) node.entry) o) }
 {
     match node {
-        Node::Choice(types) => Ok(TypeOrigin::Row(read_types(terms, tree, types)?)),
-        Node::Operation(type1) => Ok(TypeOrigin::Row(read_type1(terms, tree, type1)?)),
-        Node::Operand(type2) => Ok(TypeOrigin::Row(read_operand(terms, tree, type2)?)),
-        Node::Literal(value) => Ok(TypeOrigin::Row(read_literal(terms, tree, value)?)),
-        Node::Word(leaf) => Ok(TypeOrigin::Word(terms.add_text(text_at(tree, leaf))?)),
-        Node::Value(_, types) => Ok(TypeOrigin::Row(read_types(terms, tree, types)?)),
+        Node::Choice(types) => Ok(Some(TypeOrigin::Row(read_types(terms, tree, types)?))),
+        Node::Operation(type1) => Ok(Some(TypeOrigin::Row(read_type1(terms, tree, type1)?))),
+        Node::Operand(type2) => Ok(Some(TypeOrigin::Row(read_operand(terms, tree, type2)?))),
+        Node::Literal(value) => Ok(Some(TypeOrigin::Row(read_literal(terms, tree, value)?))),
+        Node::Word(leaf) => Ok(Some(TypeOrigin::Word(terms.add_text(text_at(tree, leaf))?))),
+        Node::Value(_, types) => Ok(Some(TypeOrigin::Row(read_types(terms, tree, types)?))),
+        Node::Entry(_) => Ok(None),
     }
 }
 

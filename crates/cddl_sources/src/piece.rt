@@ -1,15 +1,29 @@
-//! A type in the text, or a word that is a key, with what a type of the table is of that it is.
+//! A type in the text, a word that is a key, or an entry of a group, with what a type of the table is of that it is.
 
 use crate::span::Span;
 use table_making::TypeOrigin;
 
-// Where a type that is of this stands.
+// Where an entry of a group stands.
+#[derive(Clone, Copy)]
+pub(crate) struct EntryAt {
+    // The group, from its opening to its closing bracket.
+    pub(crate) around: Span,
+    // So many alternatives come after its own.
+    pub(crate) alternative: usize,
+    // So many entries come after it in its alternative.
+    pub(crate) place: usize,
+}
+
+// Where a type that is of this stands, or an entry.
 #[derive(Clone, Copy)]
 pub(crate) struct PieceAt {
     // The place of its rule in the list of rules, from 0.
     pub(crate) rule: usize,
-    pub(crate) origin: TypeOrigin,
+    // What it is of, unless it is an entry.
+    pub(crate) origin: Option<TypeOrigin>,
     // What its key is of, where it is the type of the value in an entry.
     pub(crate) key: Option<TypeOrigin>,
+    // Where it stands in its group, where it is an entry.
+    pub(crate) entry: Option<EntryAt>,
     pub(crate) span: Span,
 }

@@ -1,21 +1,21 @@
-//! Where a type of the table stands in the text, by the types that led to it.
+//! Where a type of the table stands in the text, by what led to it.
 
 ghost use Rattle.std.specs.Prelude.{◌≡◌, ◌↔◌, ℕ, ◌++◌, [], ◌∷◌, Contains, IfNone, IfSome, IsTrue, List, None, Option, Some, false, slice_get};
 ghost use Rattle.cddl_language.specs.Reading.{rules_of};
 ghost use Rattle.table_making.specs.Basis.{Sense};
 ghost use Rattle.table_making.specs.Nodes.{IsNameOfType};
-ghost use Rattle.table_nodes.specs.declared.nodes.TypeId.{TypeId as Id};
 ghost use Rattle.table_nodes.specs.declared.table.Table.{Table};
+ghost use Rattle.type_links.specs.declared.link.Link.{Link as ALink};
 ghost use Rattle.cddl_sources.specs.Places.{IsOfNoRule, IsPlace};
 ghost use Rattle.cddl_sources.specs.Sources.{AreSources};
-ghost use Rattle.cddl_sources.specs.States.{HasNoRule, HasNoValueIn, HasNumber, IsFoundAfter, IsInside, IsOfOrigin, IsStarted, IsStateAfter, IsStateOf, IsTold, IsTypeIn, IsValueIn, LeadsIn, number_at};
+ghost use Rattle.cddl_sources.specs.States.{AreNoPairIn, ArePairIn, HasNoRule, HasNumber, IsEntryIn, IsEntryOf, IsEntryWith, IsFoundAfter, IsInside, IsOfOrigin, IsStarted, IsStateAfter, IsStateOf, IsTold, IsTypeIn, IsValueIn, LeadsIn, number_at, origin_at};
 ghost use Rattle.cddl_sources.specs.declared.piece.PieceAt.{PieceAt as Piece};
 
 use crate::piece::PieceAt;
 use crate::sources::Sources;
 use crate::span::Span;
 use table_making::TypeOrigin;
-use table_nodes::TypeId;
+use type_links::Link;
 
 /// Where a type stands in the text of a specification.
 #[derive(Clone, Copy, Debug, PartialEq, Eq)]
@@ -27,7 +27,7 @@ pub struct Place {
     pub types: Span,
 }
 
-// What the types so far have led to.
+// What the links so far have led to.
 #[derive(Clone, Copy)]
 pub(crate) struct State {
     // The number of the name of the last rule of the text.
@@ -38,27 +38,29 @@ pub(crate) struct State {
     pub(crate) is_inside: bool,
     // What was found last in the rules of that name.
     pub(crate) found: Option<PieceAt>,
-    // The type after that, if one came. It is looked for when the next one is known, which may be the value of an entry that has
-    // it as its key.
-    pub(crate) held: Option<TypeId>,
+    // The link after that, if one came. It is followed when the next one is known, which may lead somewhere with it: to the value of
+    // an entry that has its type as its key, or to an entry of its alternative.
+    pub(crate) held: Option<Link>,
 }
 
 impl Sources {
-    /// Where the last of these types stands in the text, of those that do. Each has led to the next, the root first.
+    /// Where the last of the types to which these links lead stands in the text, of those that do. Each leads on from the one before,
+    /// the first to the root.
     ///
     /// The rule is the one of which the last is an instance that is an instance of a rule of the text, so a name of the prelude
     /// stands where it is asked for. From there on each type narrows it: to the first place in the rules of that name that is of
     /// this type, within the place of the one found before. Where the key of an entry comes right before the type of its value, it
-    /// is that entry's. Nothing is told where none is an instance of a rule of the text.
+    /// is that entry's. An alternative of a group and an entry of it narrow it to this entry, where the place found before is that of
+    /// the array or of the parentheses round the group. Nothing is told where none is an instance of a rule of the text.
     ///
-    /// It takes time in proportion to the types in the text for each of these.
-    pub fn place(&self, chain: &[TypeId]) -> Option<Place>
+    /// It takes time in proportion to the types and the entries in the text for each of these.
+    pub fn place(&self, chain: &[Link]) -> Option<Place>
         ensures some { IfSome result (λ p. (s : Sense) (table : Table) (known : AreSources s table self.now) → IsPlace (rules_of s.tree) (IsNameOfType s known.terms known.nodes) chain.now p) }
-        ensures none { IfNone result ((s : Sense) (table : Table) (known : AreSources s table self.now) → (m : Id) → Contains chain.now m → IsOfNoRule (rules_of s.tree) (IsNameOfType s known.terms known.nodes) m) }
+        ensures none { IfNone result ((s : Sense) (table : Table) (known : AreSources s table self.now) → (m : ALink) → Contains chain.now m → IsOfNoRule (rules_of s.tree) (IsNameOfType s known.terms known.nodes) m) }
     {
         let mut state = None;
-        for id in chain {
-            state = self.step(state, *id);
+        for link in chain {
+            state = self.step(state, *link);
         }
         match state {
             Some(state) => self.told(state, self.last_found(state)),
@@ -89,25 +91,25 @@ impl Sources {
         }
     }
 
-    // One type further.
-    fn step(&self, state: Option<State>, id: TypeId) -> Option<State>
-        ensures { (ids : List Id) → IsStateOf self.now ids state → IsStateOf self.now (ids ++ id ∷ []) result }
+    // One link further.
+    fn step(&self, state: Option<State>, link: Link) -> Option<State>
+        ensures { (ids : List ALink) → IsStateOf self.now ids state → IsStateOf self.now (ids ++ link ∷ []) result }
     {
-        match self.started(id) {
+        match self.started(link) {
             Some(new) => Some(new),
             None => match state {
-                Some(state) => Some(self.narrowed(state, id)),
+                Some(state) => Some(self.narrowed(state, link)),
                 None => None,
             },
         }
     }
 
     // Where a rule of the text begins.
-    fn started(&self, id: TypeId) -> Option<State>
-        ensures some { IfSome result (IsStarted self.now id) }
-        ensures none { IfNone result (HasNoRule self.now id) }
+    fn started(&self, link: Link) -> Option<State>
+        ensures some { IfSome result (IsStarted self.now link) }
+        ensures none { IfNone result (HasNoRule self.now link) }
     {
-        let number = self.number_of(id)?;
+        let number = self.number_of(link)?;
         let rule = self.rule_of(number)?;
         Some(State {
             number,
@@ -118,20 +120,25 @@ impl Sources {
         })
     }
 
-    // The number of the name of which the type is an instance.
-    fn number_of(&self, id: TypeId) -> Option<u32>
-        ensures { result ≡ number_at self.now id }
+    // The number of the name of which the type is an instance to which the link is.
+    fn number_of(&self, link: Link) -> Option<u32>
+        ensures { result ≡ number_at self.now link }
     {
-        match self.origin_of(id) {
+        match self.origin_of(link) {
             Some(TypeOrigin::Instance(place)) => *self.numbers.get(place as usize)?,
             _ => None,
         }
     }
 
-    fn origin_of(&self, id: TypeId) -> Option<TypeOrigin>
-        ensures { result ≡ slice_get self.now.origins.items id.number }
+    // What the type is of to which the link is.
+    fn origin_of(&self, link: Link) -> Option<TypeOrigin>
+        ensures { result ≡ origin_at self.now link }
     {
-        self.origins.get(id.number).copied()
+        match link {
+            Link::Type(id) => self.origins.get(id.number).copied(),
+            Link::Alternative { .. } => None,
+            Link::Entry { .. } => None,
+        }
     }
 
     // The place of the first rule with this number.
@@ -147,100 +154,151 @@ impl Sources {
         None
     }
 
-    // The state after a type that is an instance of no rule of the text.
-    fn narrowed(&self, state: State, id: TypeId) -> State
-        ensures { (ids : List Id) → HasNoRule self.now id → IsStateAfter self.now ids state → IsStateAfter self.now (ids ++ id ∷ []) result }
+    // The state after a link that is to an instance of no rule of the text.
+    fn narrowed(&self, state: State, link: Link) -> State
+        ensures { (ids : List ALink) → HasNoRule self.now link → IsStateAfter self.now ids state → IsStateAfter self.now (ids ++ link ∷ []) result }
     {
         if !state.is_inside {
             return state;
         }
-        match self.origin_of(id) {
+        match self.origin_of(link) {
             Some(TypeOrigin::Instance(_)) => outside(state),
-            _ => self.narrowed_to(state, id),
+            _ => self.narrowed_to(state, link),
         }
     }
 
-    // The state after a type in the rule.
-    fn narrowed_to(&self, state: State, id: TypeId) -> State
+    // The state after a link in the rule.
+    fn narrowed_to(&self, state: State, link: Link) -> State
         ensures number { result.number ≡ state.number }
         ensures rule { result.rule ≡ state.rule }
         ensures inside { result.is_inside ≡ state.is_inside }
-        ensures found { (ids : List Id) → IsFoundAfter self.now state ids → IsFoundAfter self.now result (ids ++ id ∷ []) }
+        ensures found { (ids : List ALink) → IsFoundAfter self.now state ids → IsFoundAfter self.now result (ids ++ link ∷ []) }
     {
         match state.held {
-            Some(key) => self.narrowed_by(state, key, id),
+            Some(first) => self.narrowed_by(state, first, link),
             None => State {
-                held: Some(id),
+                held: Some(link),
                 ..state
             },
         }
     }
 
-    // The same, where this type is held back: they are the key and the value of an entry, or the first of them is looked for.
-    fn narrowed_by(&self, state: State, key: TypeId, id: TypeId) -> State
-        requires { state.held ≡ Some key }
+    // The same, where this link is held back: the two lead somewhere together, or the first of them is followed alone.
+    fn narrowed_by(&self, state: State, first: Link, link: Link) -> State
+        requires { state.held ≡ Some first }
         ensures number { result.number ≡ state.number }
         ensures rule { result.rule ≡ state.rule }
         ensures inside { result.is_inside ≡ state.is_inside }
-        ensures found { (ids : List Id) → IsFoundAfter self.now state ids → IsFoundAfter self.now result (ids ++ id ∷ []) }
+        ensures found { (ids : List ALink) → IsFoundAfter self.now state ids → IsFoundAfter self.now result (ids ++ link ∷ []) }
     {
-        match self.value_in(state.number, state.found, key, id) {
+        match self.pair_in(state.number, state.found, first, link) {
             Some(piece) => State {
                 found: Some(piece),
                 held: None,
                 ..state
             },
             None => State {
-                found: self.found_by(state.number, state.found, key),
-                held: Some(id),
+                found: self.found_by(state.number, state.found, first),
+                held: Some(link),
                 ..state
             },
         }
     }
 
-    // What is found last, where no type comes any more.
+    // What is found last, where no link comes any more.
     fn last_found(&self, state: State) -> Option<PieceAt>
-        ensures { (ids : List Id) → IsFoundAfter self.now state ids → LeadsIn self.now state.number None ids result }
+        ensures { (ids : List ALink) → IsFoundAfter self.now state ids → LeadsIn self.now state.number None ids result }
     {
         match state.held {
-            Some(id) => self.found_by(state.number, state.found, id),
+            Some(link) => self.found_by(state.number, state.found, link),
             None => state.found,
         }
     }
 
-    // What is found last, once a type is looked for that is not the key of an entry whose value comes next.
-    fn found_by(&self, number: u32, found: Option<PieceAt>, id: TypeId) -> Option<PieceAt>
-        ensures { (ids : List Id) (to : Option Piece) → HasNoValueIn self.now number found id ids → LeadsIn self.now number result ids to → LeadsIn self.now number found (id ∷ ids) to }
+    // What is found last, once a link is followed that leads nowhere with the next one.
+    fn found_by(&self, number: u32, found: Option<PieceAt>, link: Link) -> Option<PieceAt>
+        ensures { (ids : List ALink) (to : Option Piece) → AreNoPairIn self.now number found link ids → LeadsIn self.now number result ids to → LeadsIn self.now number found (link ∷ ids) to }
     {
-        match self.type_in(number, found, id) {
+        match self.type_in(number, found, link) {
             Some(piece) => Some(piece),
             None => found,
         }
     }
 
-    // The first place in the rules of the name that is of this type, within what was found before.
-    fn type_in(&self, number: u32, found: Option<PieceAt>, id: TypeId) -> Option<PieceAt>
-        ensures some { IfSome result (IsTypeIn self.now number found id) }
-        ensures none { IfNone result ((a : Piece) → IsTypeIn self.now number found id a → ⊥) }
+    // The first place in the rules of the name that is of the type to which the link is, within what was found before.
+    fn type_in(&self, number: u32, found: Option<PieceAt>, link: Link) -> Option<PieceAt>
+        ensures some { IfSome result (IsTypeIn self.now number found link) }
+        ensures none { IfNone result ((a : Piece) → IsTypeIn self.now number found link a → ⊥) }
     {
-        let origin = self.origin_of(id)?;
+        let origin = self.origin_of(link)?;
         self.first_type(number, found, origin)
     }
 
-    // The same of the value's type in an entry that has these types as its key and as its value.
+    // Where two links lead together, within what was found before.
+    fn pair_in(
+        &self,
+        number: u32,
+        found: Option<PieceAt>,
+        first: Link,
+        link: Link,
+    ) -> Option<PieceAt>
+        ensures some { IfSome result (ArePairIn self.now number found first link) }
+        ensures none { IfNone result ((a : Piece) → ArePairIn self.now number found first link a → ⊥) }
+    {
+        match first {
+            Link::Type(_) => self.value_in(number, found, first, link),
+            Link::Alternative { after } => self.entry_after(number, found, after, link),
+            Link::Entry { .. } => None,
+        }
+    }
+
+    // Where this link leads after the one to an alternative.
+    fn entry_after(
+        &self,
+        number: u32,
+        found: Option<PieceAt>,
+        alternative: usize,
+        link: Link,
+    ) -> Option<PieceAt>
+        ensures some { IfSome result (ArePairIn self.now number found (Link.Alternative alternative) link) }
+        ensures none { IfNone result ((a : Piece) → ArePairIn self.now number found (Link.Alternative alternative) link a → ⊥) }
+    {
+        match link {
+            Link::Entry { after } => self.entry_in(number, found, alternative, after),
+            Link::Type(_) => None,
+            Link::Alternative { .. } => None,
+        }
+    }
+
+    // The first place of the value's type in an entry that has these types as its key and as its value.
     fn value_in(
         &self,
         number: u32,
         found: Option<PieceAt>,
-        key: TypeId,
-        id: TypeId,
+        key: Link,
+        link: Link,
     ) -> Option<PieceAt>
-        ensures some { IfSome result (IsValueIn self.now number found key id) }
-        ensures none { IfNone result ((a : Piece) → IsValueIn self.now number found key id a → ⊥) }
+        ensures some { IfSome result (IsValueIn self.now number found key link) }
+        ensures none { IfNone result ((a : Piece) → IsValueIn self.now number found key link a → ⊥) }
     {
         let key = self.origin_of(key)?;
-        let origin = self.origin_of(id)?;
+        let origin = self.origin_of(link)?;
         self.first_value(number, found, key, origin)
+    }
+
+    // The place of an entry of the group whose brackets are the ends of what was found before.
+    fn entry_in(
+        &self,
+        number: u32,
+        found: Option<PieceAt>,
+        alternative: usize,
+        place: usize,
+    ) -> Option<PieceAt>
+        ensures some { IfSome result (IsEntryOf self.now number found alternative place) }
+        ensures none { IfNone result ((a : Piece) → IsEntryOf self.now number found alternative place a → ⊥) }
+    {
+        let around = found?;
+        self.first_entry(number, found, around.span, alternative, place)
     }
 
     // The first place in the rules of the name that is of this, within what was found before.
@@ -275,6 +333,43 @@ impl Sources {
         None
     }
 
+    // The first entry in the brackets that are the ends of this part of the text, in the rules of the name.
+    fn first_entry(
+        &self,
+        number: u32,
+        found: Option<PieceAt>,
+        around: Span,
+        alternative: usize,
+        place: usize,
+    ) -> Option<PieceAt>
+        ensures some { IfSome result (IsEntryIn self.now number found around alternative place) }
+        ensures none { IfNone result ((a : Piece) → IsEntryIn self.now number found around alternative place a → ⊥) }
+    {
+        for piece in &self.pieces {
+            if self.is_entry_of(*piece, number, found, around, alternative, place) {
+                return Some(*piece);
+            }
+        }
+        None
+    }
+
+    // Whether the piece is such an entry.
+    fn is_entry_of(
+        &self,
+        piece: PieceAt,
+        number: u32,
+        found: Option<PieceAt>,
+        around: Span,
+        alternative: usize,
+        place: usize,
+    ) -> bool
+        ensures is { IsTrue result ↔ (HasNumber self.now piece.rule number × IsInside found piece × IsEntryWith around alternative place piece) }
+    {
+        is_entry(piece, around, alternative, place)
+            && self.is_named(piece.rule, number)
+            && is_inside(found, piece)
+    }
+
     // Whether the place is of this, in a rule with this number, and within what was found before.
     fn is_next(
         &self,
@@ -283,9 +378,9 @@ impl Sources {
         found: Option<PieceAt>,
         origin: TypeOrigin,
     ) -> bool
-        ensures is { IsTrue result ↔ (HasNumber self.now piece.rule number × (piece.origin ≡ origin) × IsInside found piece) }
+        ensures is { IsTrue result ↔ (HasNumber self.now piece.rule number × (piece.origin ≡ Some origin) × IsInside found piece) }
     {
-        piece.origin == origin && self.is_named(piece.rule, number) && is_inside(found, piece)
+        is_of(piece, origin) && self.is_named(piece.rule, number) && is_inside(found, piece)
     }
 
     // Whether the rule at this place has this number.
@@ -306,6 +401,29 @@ fn is_inside(found: Option<PieceAt>, piece: PieceAt) -> bool
     match found {
         Some(outer) => outer.span.first <= piece.span.first && piece.span.end <= outer.span.end,
         None => true,
+    }
+}
+
+// Whether it is of this.
+fn is_of(piece: PieceAt, origin: TypeOrigin) -> bool
+    ensures { IsTrue result ↔ (piece.origin ≡ Some origin) }
+{
+    match piece.origin {
+        Some(found) => found == origin,
+        None => false,
+    }
+}
+
+// Whether it is an entry in the brackets that are the ends of this part of the text, with so many alternatives after its own and so
+// many entries after it.
+fn is_entry(piece: PieceAt, around: Span, alternative: usize, place: usize) -> bool
+    ensures { IsTrue result ↔ IsEntryWith around alternative place piece }
+{
+    match piece.entry {
+        Some(entry) => {
+            entry.around == around && entry.alternative == alternative && entry.place == place
+        }
+        None => false,
     }
 }
 

@@ -2,11 +2,11 @@
 
 ghost use Rattle.std.specs.Prelude.{OnOk, [], ◌∷◌};
 ghost use Rattle.tree_nodes.specs.Syntax.Syntax as S;
-ghost use Rattle.tree_nodes.specs.View.{view_key, view_type1, view_type2, view_types, view_value};
-ghost use Rattle.cddl_sources.specs.Pieces.{a_type, a_value, a_word, key_piece, operand};
+ghost use Rattle.tree_nodes.specs.View.{view_grpent, view_key, view_type1, view_type2, view_types, view_value};
+ghost use Rattle.cddl_sources.specs.Pieces.{a_type, a_value, a_word, an_entry, key_piece, operand};
 ghost use Rattle.cddl_sources.specs.Walk.{Adds, view_node};
 
-use crate::node::{Found, Node};
+use crate::node::{EntryNode, Found, Node};
 use std::alloc::AllocError;
 use tree_nodes::{Leaf, MemberKey, Type1, Type2, Types, Value};
 
@@ -69,6 +69,16 @@ pub(crate) fn push_value<'t>(
     ensures { OnOk result (Adds found.old.items found.new.items rule (λ read. a_value (key_piece (view_key read key.now)) (view_types read types.now) ∷ [])) }
 {
     push(Node::Value(key, types), rule, found)
+}
+
+pub(crate) fn push_entry<'t>(
+    entry: EntryNode<'t>,
+    rule: usize,
+    found: &mut Vec<Found<'t>>,
+) -> Result<(), AllocError>
+    ensures { OnOk result (Adds found.old.items found.new.items rule (λ read. an_entry (read entry.entry.brackets.opening) (read entry.entry.brackets.closing) entry.entry.alternative entry.entry.place (view_grpent read entry.entry.entry.now) ∷ [])) }
+{
+    push(Node::Entry(entry), rule, found)
 }
 
 fn push<'t>(node: Node<'t>, rule: usize, found: &mut Vec<Found<'t>>) -> Result<(), AllocError>

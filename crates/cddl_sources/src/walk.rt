@@ -1,17 +1,20 @@
-//! The walk: a function for each kind of node adds the types in it at the end of the list, the node itself before its parts.
+//! The walk: a function for each kind of node adds the types and the entries in it at the end of the list, the node itself before its
+//! parts.
 
-ghost use Rattle.std.specs.Prelude.{◌≡◌, IfOk, OnOk, map};
+ghost use Rattle.std.specs.Prelude.{◌≡◌, ◌++◌, IfOk, OnOk, map};
 ghost use Rattle.std.specs.List.{flat_map};
 ghost use Rattle.cddl_language.specs.Reading.{rules_of};
 ghost use Rattle.tree_nodes.specs.View.{token_of, view, view_arg, view_group, view_grpent, view_key, view_ref, view_rule, view_type1, view_type2, view_types};
-ghost use Rattle.cddl_sources.specs.Pieces.{in_arguments, in_entry, in_group, in_key, in_ref, in_rule, in_type1, in_type2, in_types, rule_by_rule};
+ghost use Rattle.cddl_sources.specs.Pieces.{entries_in, in_arguments, in_entry, in_group, in_key, in_ref, in_rule, in_type1, in_type2, in_types, rule_by_rule};
 ghost use Rattle.cddl_sources.specs.Walk.{Adds, entry_pieces, further_pieces, view_found};
 
-use crate::node::Found;
+use crate::entries::add_own_entries;
+use crate::node::{Brackets, Found};
 use crate::push::{push_choice, push_literal, push_operand, push_operation, push_value, push_word};
 use std::alloc::{AllocError, Global};
 use tree_nodes::{
-    Entry, Further, GenericArg, Group, GrpEnt, MemberKey, Ref, Rule, Tree, Type1, Type2, Types,
+    Entry, Further, GenericArg, Group, GrpEnt, Leaf, MemberKey, Ref, Rule, Tree, Type1, Type2,
+    Types,
 };
 
 // All types of a specification's text and the words that are keys there, rule by rule in the order of the text.
@@ -98,7 +101,11 @@ fn add_type2<'t>(
         Type2::Typename(name) => add_ref(name, rule, found),
         Type2::Parens { types, .. } => add_types(types, rule, found),
         Type2::MapOf { group, .. } => add_group(group, rule, found),
-        Type2::ArrayOf { group, .. } => add_group(group, rule, found),
+        Type2::ArrayOf {
+            opening,
+            group,
+            closing,
+        } => add_bracketed(brackets(*opening, *closing), group, rule, found),
         Type2::Unwrapped { name, .. } => add_ref(name, rule, found),
         Type2::ChoiceOf { group, .. } => add_group(group, rule, found),
         Type2::ChoiceOfName { name, .. } => add_ref(name, rule, found),
@@ -134,6 +141,26 @@ fn add_arguments<'t>(
     let GenericArg { first, others } = arguments;
     add_type1(first, rule, found)?;
     add_further(others, rule, found)
+}
+
+fn brackets(opening: Leaf, closing: Leaf) -> Brackets
+    ensures { result ≡ record { opening = opening; closing = closing } }
+{
+    Brackets { opening, closing }
+}
+
+// The entries of a group in brackets, and then what is in each of them.
+#[cycle(walk)]
+fn add_bracketed<'t>(
+    brackets: Brackets,
+    group: &'t Group,
+    rule: usize,
+    found: &mut Vec<Found<'t>>,
+) -> Result<(), AllocError>
+    ensures { OnOk result (Adds found.old.items found.new.items rule (λ read. entries_in (read brackets.opening) (read brackets.closing) 0 (view_group read group.now) ++ in_group (view_group read group.now))) }
+{
+    add_own_entries(brackets, group, rule, found)?;
+    add_group(group, rule, found)
 }
 
 #[cycle(walk)]
@@ -181,7 +208,12 @@ fn add_grpent<'t>(
             push_value(key, types, rule, found)?;
             add_types(types, rule, found)
         }
-        GrpEnt::Grouped { group, .. } => add_group(group, rule, found),
+        GrpEnt::Grouped {
+            opening,
+            group,
+            closing,
+            ..
+        } => add_bracketed(brackets(*opening, *closing), group, rule, found),
     }
 }
 

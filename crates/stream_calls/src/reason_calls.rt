@@ -4,6 +4,7 @@ use cbor_item::Sound;
 use cddl_reasons::{Cause, Reason, find_reasons};
 use std::alloc::{AllocError, Global};
 use table_nodes::{Content, Table};
+use type_links::Link;
 
 // Why a table says no to an item: where that shows, so many reasons, and how many more there are.
 pub(crate) fn push_reasons(
@@ -30,11 +31,11 @@ pub(crate) fn push_reasons(
     }
 }
 
-// The types, the strings in whose content it is, the place, and the cause.
+// What led there, the strings in whose content it is, the place, and the cause.
 fn push_reason(alloc: Global, reason: &Reason, out: &mut String) -> Result<(), AllocError> {
     out.push_str(", ")?;
-    for id in &reason.types {
-        push_number(alloc, id.number as u64, out)?;
+    for link in &reason.links {
+        push_step(alloc, *link, out)?;
         out.push_str(" ")?;
     }
     out.push_str("at ")?;
@@ -44,6 +45,21 @@ fn push_reason(alloc: Global, reason: &Reason, out: &mut String) -> Result<(), A
     }
     push_number(alloc, reason.place as u64, out)?;
     push_cause(alloc, reason.cause, out)
+}
+
+// The number of a type; and of an alternative or an entry how many come after it.
+fn push_step(alloc: Global, link: Link, out: &mut String) -> Result<(), AllocError> {
+    match link {
+        Link::Type(id) => push_number(alloc, id.number as u64, out),
+        Link::Alternative { after } => {
+            out.push_str("or")?;
+            push_number(alloc, after as u64, out)
+        }
+        Link::Entry { after } => {
+            out.push_str("of")?;
+            push_number(alloc, after as u64, out)
+        }
+    }
 }
 
 fn push_cause(alloc: Global, cause: Cause, out: &mut String) -> Result<(), AllocError> {

@@ -17,7 +17,7 @@ returns c = λ w d.
       next = _;
       opened = open_asked (language_of t) nothing;
       fails = (w, said (language_of t) (room x c.item-sound.ensures.sound) d);
-      types = rw (c.in_ok-push.ensures.items, c.new-types.ensures.items, c.root.ensures) refl;
+      links = rw (c.in_ok-push.ensures.items, c.new-links.ensures.items, c.root.ensures) refl;
       strings = c.new-strings.ensures.items;
       cause = tt;
     }

@@ -1,6 +1,6 @@
 use Rattle.std.proofs.Common.{◌++◌, ap, ◌∙◌}
 use Rattle.cddl_reasons.specs.Opened.{asked_in, waits_in}
-use Rattle.cddl_reasons.specs.Told.{strings_of, type_of, types_of}
+use Rattle.cddl_reasons.specs.Told.{links_of, strings_of, type_of}
 use Rattle.cddl_reasons.proofs.Tellings.{open_replies}
 use Rattle.match_moves.specs.Views.{question_view}
 use Rattle.table_nodes.specs.Language.{language_of}
@@ -16,7 +16,7 @@ returns c = λ first cause at.
       next = _;
       opened = at;
       fails = open_replies (language_of c.args.table.now) at;
-      types = c.in_ok-push_type.ensures ∙ ap (λ ts. ts ++ type_of (question_view run.last.question)) (c.in_ok-types.ensures ∙ ap (λ os. types_of (asked_in os) (waits_in os)) c.as_slice-below.ensures.value);
+      links = c.in_ok-push_type.ensures ∙ ap (λ ts. ts ++ type_of (question_view run.last.question)) (c.in_ok-links.ensures ∙ ap (λ os. links_of (asked_in os) (waits_in os)) c.as_slice-below.ensures.value);
       strings = c.in_ok-strings.ensures ∙ ap (λ os. strings_of (waits_in os)) c.as_slice-below.ensures.value;
       cause = cause;
     }

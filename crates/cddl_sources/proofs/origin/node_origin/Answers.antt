@@ -1,9 +1,9 @@
-use Rattle.std.proofs.Common.{◌≡◌, ap, sym, subst, ◌∙◌, Some}
+use Rattle.std.proofs.Common.{◌≡◌, ap, sym, subst, ◌∙◌, None, Some}
 use Rattle.tree_nodes.specs.Syntax.Syntax as S
-use Rattle.tree_nodes.specs.View.{token_of, view_key, view_type1, view_type2, view_types, view_value}
+use Rattle.tree_nodes.specs.View.{token_of, view_grpent, view_key, view_type1, view_type2, view_types, view_value}
 use Rattle.table_making.specs.declared.origin.TypeOrigin.TheVariants as T
-use Rattle.cddl_sources.specs.Origins.{IsOriginOf, of_type, of_value, of_word}
-use Rattle.cddl_sources.specs.Pieces.{Piece, a_type, a_value, a_word, key_piece, operand}
+use Rattle.cddl_sources.specs.Origins.{MayBeOf, is_of, no_type, of_type, of_value, of_word}
+use Rattle.cddl_sources.specs.Pieces.{Piece, a_type, a_value, a_word, an_entry, key_piece, operand}
 use Rattle.cddl_sources.specs.Walk.{view_node}
 use Rattle.cddl_sources.proofs.origin.node_origin.Goals as goal
 
@@ -11,34 +11,41 @@ pub returns-in_ok-read_types-in-Choice-clause-origin : goal.returns-in_ok-read_t
 returns-in_ok-read_types-in-Choice-clause-origin c =
     let read = token_of c.args.tree.now in
     let e : view_node read c.args.node ≡ a_type (view_types read c.in-Choice.types.now) = simp c.in-Choice.is in
-    subst (λ (p : Piece). IsOriginOf c.read_types.new.terms p (T.Row c.in_ok-read_types-in-Choice.field-0)) (sym e) (of_type c.in_ok-read_types-in-Choice.ensures.term)
+    subst (λ (p : Piece). MayBeOf c.read_types.new.terms p (Some (T.Row c.in_ok-read_types-in-Choice.field-0))) (sym e) (is_of (of_type c.in_ok-read_types-in-Choice.ensures.term))
 
 pub returns-in_ok-read_type1-in-Operation-clause-origin : goal.returns-in_ok-read_type1-in-Operation-clause-origin
 returns-in_ok-read_type1-in-Operation-clause-origin c =
     let read = token_of c.args.tree.now in
     let e : view_node read c.args.node ≡ a_type (S.only (view_type1 read c.in-Operation.type1.now)) = simp c.in-Operation.is in
-    subst (λ (p : Piece). IsOriginOf c.read_type1.new.terms p (T.Row c.in_ok-read_type1-in-Operation.field-0)) (sym e) (of_type c.in_ok-read_type1-in-Operation.ensures.term)
+    subst (λ (p : Piece). MayBeOf c.read_type1.new.terms p (Some (T.Row c.in_ok-read_type1-in-Operation.field-0))) (sym e) (is_of (of_type c.in_ok-read_type1-in-Operation.ensures.term))
 
 pub returns-in_ok-read_operand-in-Operand-clause-origin : goal.returns-in_ok-read_operand-in-Operand-clause-origin
 returns-in_ok-read_operand-in-Operand-clause-origin c =
     let read = token_of c.args.tree.now in
     let e : view_node read c.args.node ≡ operand (view_type2 read c.in-Operand.type2.now) = simp c.in-Operand.is in
-    subst (λ (p : Piece). IsOriginOf c.read_operand.new.terms p (T.Row c.in_ok-read_operand-in-Operand.field-0)) (sym e) (of_type c.in_ok-read_operand-in-Operand.ensures.term)
+    subst (λ (p : Piece). MayBeOf c.read_operand.new.terms p (Some (T.Row c.in_ok-read_operand-in-Operand.field-0))) (sym e) (is_of (of_type c.in_ok-read_operand-in-Operand.ensures.term))
 
 pub returns-in_ok-read_literal-in-Literal-clause-origin : goal.returns-in_ok-read_literal-in-Literal-clause-origin
 returns-in_ok-read_literal-in-Literal-clause-origin c =
     let read = token_of c.args.tree.now in
     let e : view_node read c.args.node ≡ operand (S.literal (view_value read c.in-Literal.value)) = simp c.in-Literal.is in
-    subst (λ (p : Piece). IsOriginOf c.read_literal.new.terms p (T.Row c.in_ok-read_literal-in-Literal.field-0)) (sym e) (of_type c.in_ok-read_literal-in-Literal.ensures.literal)
+    subst (λ (p : Piece). MayBeOf c.read_literal.new.terms p (Some (T.Row c.in_ok-read_literal-in-Literal.field-0))) (sym e) (is_of (of_type c.in_ok-read_literal-in-Literal.ensures.literal))
 
 pub returns-in_ok-add_text-in-Word-clause-origin : goal.returns-in_ok-add_text-in-Word-clause-origin
 returns-in_ok-add_text-in-Word-clause-origin c =
     let read = token_of c.args.tree.now in
     let e : view_node read c.args.node ≡ a_word (read c.in-Word.leaf) = simp c.in-Word.is in
-    subst (λ (p : Piece). IsOriginOf c.add_text.new.self p (T.Word c.in_ok-add_text-in-Word.field-0)) (sym e) (of_word (c.in_ok-add_text-in-Word.ensures.there ∙ ap Some c.text_at.ensures))
+    subst (λ (p : Piece). MayBeOf c.add_text.new.self p (Some (T.Word c.in_ok-add_text-in-Word.field-0))) (sym e) (is_of (of_word (c.in_ok-add_text-in-Word.ensures.there ∙ ap Some c.text_at.ensures)))
 
 pub returns-in_ok-read_types-in-Value-clause-origin : goal.returns-in_ok-read_types-in-Value-clause-origin
 returns-in_ok-read_types-in-Value-clause-origin c =
     let read = token_of c.args.tree.now in
     let e : view_node read c.args.node ≡ a_value (key_piece (view_key read c.in-Value.field-0.now)) (view_types read c.in-Value.types.now) = simp c.in-Value.is in
-    subst (λ (p : Piece). IsOriginOf c.read_types-in-Value.new.terms p (T.Row c.in_ok-read_types-in-Value.field-0)) (sym e) (of_value c.in_ok-read_types-in-Value.ensures.term)
+    subst (λ (p : Piece). MayBeOf c.read_types-in-Value.new.terms p (Some (T.Row c.in_ok-read_types-in-Value.field-0))) (sym e) (is_of (of_value c.in_ok-read_types-in-Value.ensures.term))
+
+pub returns-in-Entry-clause-origin : goal.returns-in-Entry-clause-origin
+returns-in-Entry-clause-origin c =
+    let read = token_of c.args.tree.now in
+    let n = c.in-Entry.field-0 in
+    let e : view_node read c.args.node ≡ an_entry (read n.brackets.opening) (read n.brackets.closing) n.alternative n.place (view_grpent read n.entry.now) = simp c.in-Entry.is in
+    subst (λ (p : Piece). MayBeOf c.args.terms.now p None) (sym e) no_type

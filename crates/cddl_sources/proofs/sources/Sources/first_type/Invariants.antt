@@ -5,4 +5,4 @@ use Rattle.cddl_sources.proofs.sources.Sources.first_type.Given as goal
 
 -- none of those so far is of the type
 abbrev pub invariant-loop-piece : goal.invariant-loop-piece
-invariant-loop-piece l = (i : ℕ) (a : PieceAt) → i < l.piece-index → slice_get l.self.pieces.items i ≡ Some a → HasNumber l.self a.rule l.number → IsInside l.found a → a.origin ≡ l.origin → ⊥
+invariant-loop-piece l = (i : ℕ) (a : PieceAt) → i < l.piece-index → slice_get l.self.pieces.items i ≡ Some a → HasNumber l.self a.rule l.number → IsInside l.found a → a.origin ≡ Some l.origin → ⊥

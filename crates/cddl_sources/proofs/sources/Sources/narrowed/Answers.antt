@@ -8,12 +8,12 @@ use Rattle.cddl_sources.proofs.sources.Sources.narrowed.Goals as goal
 pub returns-then-not-state : goal.returns-then-not-state
 returns-then-not-state c =
     let e : c.args.state.is_inside ≡ false = first_of (search rules, grind (arith, common_steps), cc) in
-    λ ids none h. gone_by c.args.self.now c.args.id ids c.args.state e none h
+    λ ids none h. gone_by c.args.self.now c.args.link ids c.args.state e none h
 
 pub returns-in-Some-Instance : goal.returns-in-Some-Instance
-returns-in-Some-Instance c = λ ids none h. subst (λ (new : State). IsStateAfter c.args.self.now (ids ++ c.args.id ∷ []) new) (sym c.outside.ensures) (gone_out c.args.self.now c.args.id ids c.args.state c.in-Some-Instance.field-0-0 (sym c.in-Some-Instance.ensures ∙ ap Some c.in-Some-Instance.field-0-is) none h)
+returns-in-Some-Instance c = λ ids none h. subst (λ (new : State). IsStateAfter c.args.self.now (ids ++ c.args.link ∷ []) new) (sym c.outside.ensures) (gone_out c.args.self.now c.args.link ids c.args.state c.in-Some-Instance.field-0-0 (sym c.in-Some-Instance.ensures ∙ ap Some c.in-Some-Instance.field-0-is) none h)
 
 pub returns-in_default : goal.returns-in_default
 returns-in_default c =
     let e : c.args.state.is_inside ≡ true = first_of (search rules, grind (arith, common_steps), cc) in
-    λ ids none h. gone_in c.args.self.now c.args.id ids c.args.state c.narrowed_to.result e none h c.narrowed_to.ensures.number c.narrowed_to.ensures.rule c.narrowed_to.ensures.inside c.narrowed_to.ensures.found
+    λ ids none h. gone_in c.args.self.now c.args.link ids c.args.state c.narrowed_to.result e none h c.narrowed_to.ensures.number c.narrowed_to.ensures.rule c.narrowed_to.ensures.inside c.narrowed_to.ensures.found

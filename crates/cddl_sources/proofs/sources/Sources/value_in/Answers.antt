@@ -10,7 +10,7 @@ pub returns-in_err-origin-clause-none : goal.returns-in_err-origin-clause-none
 returns-in_err-origin-clause-none c = if_none c.from_residual-in_err-origin.result _ (λ a h. some_none (sym h.is.there ∙ sym c.in_err-origin.ensures))
 
 pub returns-clause-some : goal.returns-clause-some
-returns-clause-some c = some_then c.first_value.result _ _ (λ a h. any_value c.args.self.now c.args.number c.args.found c.args.key c.args.id a (sym c.in_ok-key.ensures) (sym c.in_ok-origin.ensures) h.0 h.1 h.2) c.first_value.ensures.some
+returns-clause-some c = some_then c.first_value.result _ _ (λ a h. any_value c.args.self.now c.args.number c.args.found c.args.key c.args.link a (sym c.in_ok-key.ensures) (sym c.in_ok-origin.ensures) h.0 h.1 h.2) c.first_value.ensures.some
 
 pub returns-clause-none : goal.returns-clause-none
-returns-clause-none c = none_then c.first_value.result _ _ (λ none a h. no_value c.args.self.now c.args.number c.args.found c.args.key c.args.id a (sym c.in_ok-key.ensures) (sym c.in_ok-origin.ensures) none h) c.first_value.ensures.none
+returns-clause-none c = none_then c.first_value.result _ _ (λ none a h. no_value c.args.self.now c.args.number c.args.found c.args.key c.args.link a (sym c.in_ok-key.ensures) (sym c.in_ok-origin.ensures) none h) c.first_value.ensures.none
