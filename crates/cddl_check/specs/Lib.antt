@@ -1,4 +1,5 @@
 pub mod Outcome
+pub mod RootFaults
 pub mod Spec
 pub mod Stages
 pub mod Text

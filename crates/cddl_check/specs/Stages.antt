@@ -30,9 +30,13 @@ use Rattle.cddl_language.specs.MapFaults.{HasMapShape, HasNoKey, HasTooManyAlter
 use Rattle.alternatives.specs.Summaries.{AreSummaries}
 use Rattle.check_groups.specs.Splices.Parts.{AreParts}
 use Rattle.check_root.specs.ReachedFaults.Unwrapping.{OpensWrongly}
+use Rattle.check_maps.specs.Spliced.Spliced.{AreSpliced}
+use Rattle.check_maps.specs.MapCycles.Coming.{AreComingBack}
+use Rattle.check_maps.specs.MapFaults.Faults.{AreFaults}
 use Rattle.cddl_check.specs.declared.closing.Meant.{Meant}
 use Rattle.cddl_check.specs.declared.finding.Instanced.{Instanced}
 use Rattle.cddl_check.specs.declared.mapping.MapFaults.{MapFaults}
+use Rattle.cddl_check.specs.declared.mapping.Maps.{Maps}
 use Rattle.cddl_check.specs.declared.questioning.Naming.{Naming}
 use Rattle.cddl_check.specs.declared.questioning.Questions.{Questions}
 use Rattle.cddl_check.specs.declared.reading.Reading.{Reading}
@@ -98,6 +102,12 @@ pub record AreValued (s : Specification) (worth : Values) (root : Text) : Type 0
   pub literals : IsLeast (HasNotLiteral s worth root) None
   pub ranges : IsLeast (HasBadRange s worth root) None
   pub controllers : IsLeast (HasBadController s worth root) None
+
+-- What is spliced into the maps that are reached, which of it leads back, and what is wrong with each row.
+pub record AreMaps (s : Specification) (root : Text) (refs : List Ref) (t : Table) (x : Maps) : Type 0 where
+  pub spliced : AreSpliced (rules s) root t refs x.spliced.items
+  pub returning : AreComingBack (definitions s) root t refs x.spliced.items x.returning.items
+  pub faults : AreFaults (definitions s) root t x.faults.items
 
 -- The least offsets of what is wrong in maps.
 pub record AreMapFaults (s : Specification) (root : Text) (x : MapFaults) : Type 0 where

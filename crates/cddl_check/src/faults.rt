@@ -121,7 +121,11 @@ fn unwrapping(terms: &Terms<'_>, reading: &Reading<'_>) -> Option<usize>
 }
 
 // Ranks of what the instances ask, or what comes back to itself.
-fn order_of(alloc: Global, terms: &Terms<'_>, reading: &Reading<'_>) -> Result<Order, Stopped>
+pub(crate) fn order_of(
+    alloc: Global,
+    terms: &Terms<'_>,
+    reading: &Reading<'_>,
+) -> Result<Order, Stopped>
     ensures order { IfOk result (λ o. (s : Specification) (worth : Values) (tree : Trees) (root : Text) (refs : List Ref) → IsReading s worth root refs terms.now tree reading.now → IsOrder (definitions s) root refs terms.now o) }
     ensures memory { IfErr result (λ e. e ≡ Why.Memory) }
 {

@@ -12,7 +12,7 @@ ghost use Rattle.check_terms.specs.Table.{Table};
 ghost use Rattle.tree_nodes.specs.declared.tree.Tree.{Tree as Trees};
 ghost use Rattle.cddl_check.specs.Outcome.{IsStopped};
 ghost use Rattle.cddl_check.specs.Stages.{IsGiven, IsInstanced, IsRight};
-ghost use Rattle.cddl_check.specs.Told.{IsTold};
+ghost use Rattle.cddl_check.specs.Told.{IsEarly, IsTold};
 
 use crate::stopped::{Stopped, refused};
 use cddl_token::Code;
@@ -50,6 +50,7 @@ pub(crate) fn find_instances<'t>(
 ) -> Result<Instanced<'t>, Stopped>
     ensures found { IfOk result (λ x. (s : Specification) (worth : Values) → IsGiven s worth tree.now (option_map (λ t. t.now) given.entry) → IsSurvey terms.old tree.now survey.now → IsRight s worth → (root : Text) × (refs : List Ref) × IsInstanced s root refs terms.new tree.now survey.now x) }
     ensures stopped { IfErr result (λ e. (s : Specification) (worth : Values) → IsGiven s worth tree.now (option_map (λ t. t.now) given.entry) → IsSurvey terms.old tree.now survey.now → IsRight s worth → IsStopped s worth e) }
+    ensures early { IfErr result IsEarly }
 {
     survey_grows();
     root_faults_are_told();
@@ -78,6 +79,7 @@ pub(crate) fn find_instances<'t>(
 fn root_number(terms: &Terms<'_>, survey: &Survey<'_>, given: Option<&str>) -> Result<u32, Stopped>
     ensures root { IfOk result (λ n. (s : Specification) (worth : Values) (tree : Trees) → IsGiven s worth tree (option_map (λ t. t.now) given.entry) → IsSurvey terms.now tree survey.now → (root : Text) × (root_in s ≡ Some root) × (slice_get terms.now.texts n ≡ Some root)) }
     ensures stopped { IfErr result (λ e. (s : Specification) (worth : Values) (tree : Trees) → IsGiven s worth tree (option_map (λ t. t.now) given.entry) → IsSurvey terms.now tree survey.now → IsRight s worth → IsStopped s worth e) }
+    ensures early { IfErr result IsEarly }
 {
     match root_of(terms, survey, given) {
         Some(number) => Ok(number),
@@ -90,6 +92,7 @@ fn few(found: Found) -> Result<Vec<Instance>, Stopped>
     ensures found { IfOk result (λ v. (s : Specification) (root : Text) (t : Table) → IsFound (definitions s) root t found → HasFound (definitions s) root t v.items) }
     ensures few { IfOk result (λ v. (s : Specification) (root : Text) (t : Table) → IsFound (definitions s) root t found → IsLeast (HasTooManyInstances s root) None) }
     ensures many { IfErr result (λ e. (s : Specification) (root : Text) (t : Table) → IsFound (definitions s) root t found → IsTold (HasTooManyInstances s root) TooManyInstances e) }
+    ensures early { IfErr result IsEarly }
 {
     let many = too_many(&found);
     match found {

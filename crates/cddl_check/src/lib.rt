@@ -1,6 +1,7 @@
 //! Checks a specification in CDDL (RFC 8610): all stages from its tree to what a table is made of, or what is wrong with it.
 #![tactic(auto)]
 
+mod all_faults;
 mod checking;
 mod closing;
 mod faults;
@@ -15,6 +16,7 @@ mod splicing;
 mod stopped;
 mod text;
 
+pub use crate::all_faults::{RootFaults, root_faults};
 pub use crate::checking::check;
 pub use crate::closing::Meant;
 pub use crate::findings::Findings;

@@ -3,11 +3,14 @@
 ghost use Rattle.std.specs.Prelude.{◌≡◌, ◌+◌, IfErr, IfOk, List, length, option_map};
 ghost use Rattle.cddl_language.specs.Environment.{most_names};
 ghost use Rattle.cddl_language.specs.Faults.{Specification, definitions};
-ghost use Rattle.cddl_language.specs.Literals.{Values};
 ghost use Rattle.cddl_language.specs.Prelude.{prelude};
 ghost use Rattle.cddl_language.specs.Terms.{Ref, Text};
+ghost use Rattle.cddl_language.specs.Literals.{AreRight, Values};
+ghost use Rattle.tree_nodes.specs.View.{view};
 ghost use Rattle.cddl_check.specs.Outcome.{IsStopped};
-ghost use Rattle.cddl_check.specs.Stages.{IsGiven, IsReading};
+ghost use Rattle.cddl_check.specs.Stages.{IsGiven, IsInstanced, IsReading, IsRight};
+ghost use Rattle.cddl_check.specs.Told.{IsEarly};
+ghost use Rattle.cddl_check.specs.declared.stopped.Stopped.TheVariants as Why;
 
 use crate::closing::{Meant, close_instances};
 use crate::finding::{Instanced, find_instances};
@@ -32,6 +35,13 @@ pub(crate) struct Reading<'t> {
     pub splices: Splices,
 }
 
+/// The survey of a text in which nothing is wrong, and what its root leads to: no more instances than may be.
+#[derive(Drop)]
+pub(crate) struct Begun<'t> {
+    pub survey: Survey<'t>,
+    pub instanced: Instanced<'t>,
+}
+
 // What is found of a specification in whose text nothing is wrong, and whose root has no more instances than may be.
 pub(crate) fn read_tree<'s, 't>(
     alloc: Global,
@@ -42,12 +52,42 @@ pub(crate) fn read_tree<'s, 't>(
     ensures read { IfOk result (λ x. (s : Specification) (worth : Values) → IsGiven s worth tree.now (option_map (λ t. t.now) given.entry) → (root : Text) × (refs : List Ref) × IsReading s worth root refs terms.new tree.now x) }
     ensures stopped { IfErr result (λ e. (s : Specification) (worth : Values) → IsGiven s worth tree.now (option_map (λ t. t.now) given.entry) → IsStopped s worth e) }
 {
+    let begun = begin_tree(alloc, terms, tree, given)?;
+    let reading = finish_tree(alloc, terms, tree, begun)?;
+    Ok(reading)
+}
+
+// The text, and what its root leads to; or the first fault of C1 to C10.
+pub(crate) fn begin_tree<'s, 't>(
+    alloc: Global,
+    terms: &mut Terms<'s>,
+    tree: &'t Tree<'s>,
+    given: Option<&str>,
+) -> Result<Begun<'t>, Stopped>
+    ensures begun { IfOk result (λ x. (s : Specification) (worth : Values) → IsGiven s worth tree.now (option_map (λ t. t.now) given.entry) → (root : Text) × (refs : List Ref) × IsRight s worth × IsInstanced s root refs terms.new tree.now x.survey x.instanced) }
+    ensures stopped { IfErr result (λ e. (s : Specification) (worth : Values) → IsGiven s worth tree.now (option_map (λ t. t.now) given.entry) → IsStopped s worth e) }
+    ensures early { IfErr result (λ e. (s : Specification) (worth : Values) → IsGiven s worth tree.now (option_map (λ t. t.now) given.entry) → IsEarly e) }
+{
+    let survey = clear_text(alloc, terms, tree, given)?;
+    let instanced = find_instances(alloc, terms, tree, &survey, given)?;
+    Ok(Begun { survey, instanced })
+}
+
+// What is found of it from there on.
+pub(crate) fn finish_tree<'s, 't>(
+    alloc: Global,
+    terms: &mut Terms<'s>,
+    tree: &'t Tree<'s>,
+    begun: Begun<'t>,
+) -> Result<Reading<'t>, Stopped>
+    ensures read { IfOk result (λ x. (s : Specification) (worth : Values) (root : Text) (refs : List Ref) → s.tree ≡ view tree.now → AreRight s.tree worth → IsRight s worth → IsInstanced s root refs terms.old tree.now begun.entry.survey begun.entry.instanced → IsReading s worth root refs terms.new tree.now x) }
+    ensures memory { IfErr result (λ e. e ≡ Why.Memory) }
+{
     growing_keeps();
     instances_grow();
     questions_grow();
     entry_questions_grow();
-    let survey = clear_text(alloc, terms, tree, given)?;
-    let instanced = find_instances(alloc, terms, tree, &survey, given)?;
+    let Begun { survey, instanced } = begun;
     let questions = ask(alloc, terms, tree, &survey, &instanced)?;
     let most = survey.known.len() + survey.definitions.len();
     let kinds = &questions.naming.kinds;

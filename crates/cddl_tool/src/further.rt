@@ -13,7 +13,7 @@ use std::alloc::{AllocError, Global};
 // How many faults of one code are told.
 pub(crate) const MOST: usize = 20;
 
-// What is told of the first fault, and then of those besides that stand in the whole text.
+// What is told of the first fault, and then of those besides: in the whole text, or in what its root reaches.
 pub(crate) fn explained(
     alloc: Global,
     fault: Fault,

@@ -1,20 +1,21 @@
 -- The first fault that is listed.
 use Rattle.std.proofs.Common.{◌≡◌, ◌⊎◌, inl, inr, ℕ, zero, suc, ◌+◌, ◌<◌, ◌≤◌, List, [], ◌∷◌, ◌++◌, length, take, get_or, Option, Some, slice_get, refl, sym, ap, subst, ◌∙◌, arith}
 use Rattle.std.specs.List.{Contains}
-use Rattle.std.proofs.lemmas.List.Elements.{Contains-get_or, Contains-push_cases}
+use Rattle.std.proofs.lemmas.List.Elements.{Contains-append_cases, Contains-get_or, Contains-push_cases}
 use Rattle.std.proofs.lemmas.Map.Keys.{below_from_sorted, sorted_from_strictly_increasing}
 use Rattle.cddl_language.specs.Faults.{IsFaultAt, IsRefused, Specification, number_of}
-use Rattle.cddl_language.specs.Literals.{Values}
+use Rattle.cddl_language.specs.Literals.{AreRight, Values}
+use Rattle.cddl_language.specs.Terms.{Text}
 use Rattle.cddl_token.specs.declared.Code.{Code}
-use Rattle.check_text.specs.Everywhere.Codes.{code_of}
-use Rattle.check_text.specs.Everywhere.Offsets.{AreOffsets}
-use Rattle.check_text.specs.declared.everywhere.codes.TextCode.{TextCode}
+use Rattle.tree_nodes.specs.Syntax.Syntax.{Cddl}
+use Rattle.cddl_check.specs.Outcome.{specification}
+use Rattle.all_offsets.specs.Offsets.{AreOffsets}
 use Rattle.lists.proofs.Lemmas.{at_head, either, none_in}
-use Rattle.check_faults.specs.Listed.{AreFirst, AreListed, no_code, further_code}
+use Rattle.check_faults.specs.Listed.{AreFirst, AreListed, AreOfRoot, AreOfSpecification, no_code, further_code, reached, unreached}
 use Rattle.check_faults.specs.declared.listing.Listed.{Listed}
 
 -- what is said of each code is said of each in the list
-each_is : (P : Code → ℕ → Type 0) (most : ℕ) {cs : List TextCode} {ls : List Listed} → AreListed P most cs ls → (l : Listed) → Contains ls l → AreFirst (P l.code) most l
+pub each_is : (P : Code → ℕ → Type 0) (most : ℕ) {cs : List Code} {ls : List Listed} → AreListed P most cs ls → (l : Listed) → Contains ls l → AreFirst (P l.code) most l
 each_is P most no_code l there = absurd (none_in l there)
 each_is P most (further_code {ls = ls} h c m is first) l there = either (Contains-push_cases ls m l there) (each_is P most h l) (λ e. subst (λ x. AreFirst (P x.code) most x) e (subst (λ d. AreFirst (P d) most m) (sym is) first))
 
@@ -43,14 +44,23 @@ least_first P all at are here least = by ((are.exactly at).1 here)
     by : Contains all at → (0 < length all) × (get_or all 0 at ≡ at)
     by h = front h.0 h.1 h.2
 
-module _ (s : Specification) (worth : Values) (most : ℕ) (code : Code) (at : ℕ) (refused : IsRefused s worth code at) where
-  pub none_lower : (cs : List TextCode) (ls : List Listed) → AreListed (IsFaultAt s worth) most cs ls → (l : Listed) → Contains ls l → number_of l.code < number_of code → l.offsets.items ≡ []
-  none_lower cs ls h l there low =
-      let is = each_is (IsFaultAt s worth) most h l there in
-      is.first ∙ nothing most is.all (λ p k. let bound = refused.lowest l.code p ((is.are_all.exactly p).0 k) in omega (arith, bound, low))
+module _ (s : Specification) (worth : Values) (most : ℕ) (code : Code) (at : ℕ) (refused : IsRefused s worth code at) (l : Listed) (is : AreFirst (IsFaultAt s worth l.code) most l) where
+  pub none_lower : number_of l.code < number_of code → l.offsets.items ≡ []
+  none_lower low = is.first ∙ nothing most is.all (λ p k. let bound = refused.lowest l.code p ((is.are_all.exactly p).0 k) in omega (arith, bound, low))
 
-  pub first_at : 0 < most → (cs : List TextCode) (ls : List Listed) → AreListed (IsFaultAt s worth) most cs ls → (l : Listed) → Contains ls l → l.code ≡ code → slice_get l.offsets.items 0 ≡ Some at
-  first_at some cs ls h l there same =
-      let is = subst (λ c. AreFirst (IsFaultAt s worth c) most l) same (each_is (IsFaultAt s worth) most h l there) in
-      let front = least_first (IsFaultAt s worth code) is.all at is.are_all refused.present refused.least in
+  pub first_at : 0 < most → l.code ≡ code → slice_get l.offsets.items 0 ≡ Some at
+  first_at some same =
+      let are = subst (λ c. AreOffsets (IsFaultAt s worth c) is.all) same is.are_all in
+      let front = least_first (IsFaultAt s worth code) is.all at are refused.present refused.least in
       ap (λ xs. slice_get xs 0) is.first ∙ taken_first most is.all at some front.0 front.1
+
+-- the same of all that is listed of a specification
+
+of_root_is : (s : Specification) (worth : Values) (most : ℕ) (ls : List Listed) → AreOfRoot s worth most ls → (l : Listed) → Contains ls l → AreFirst (IsFaultAt s worth l.code) most l
+of_root_is s worth most ls (unreached u none) l there = absurd (none_in l (subst (λ xs. Contains xs l) none there))
+of_root_is s worth most ls (reached u h) l there = each_is (IsFaultAt s worth) most h l there
+
+pub each_of_all : (x : Cddl) (root : Option Text) (worth : Values) (most : ℕ) (ls : List Listed) → AreOfSpecification x root most ls → AreRight x worth → (l : Listed) → Contains ls l → AreFirst (IsFaultAt (specification x root) worth l.code) most l
+each_of_all x root worth most ls h right l there =
+    let s = specification x root in
+    either (Contains-append_cases h.whole h.rest l (subst (λ xs. Contains xs l) h.is there)) (each_is (IsFaultAt s worth) most (h.of_text worth) l) (of_root_is s worth most h.rest (h.of_root worth right) l)

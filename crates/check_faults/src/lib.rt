@@ -6,4 +6,4 @@ mod listing;
 mod text;
 
 pub use crate::listing::Listed;
-pub use crate::text::{text_faults, tree_faults};
+pub use crate::text::{all_faults, text_faults, tree_faults};

@@ -2,7 +2,8 @@
 mod bounds;
 mod ends;
 
-ghost use Rattle.std.specs.Prelude.{◌≡◌};
+ghost use Rattle.std.specs.Prelude.{◌≡◌, IfOk};
+ghost use Rattle.all_offsets.specs.Offsets.{AreOffsets};
 ghost use Rattle.cddl_language.specs.Faults.{HasBadRange, Specification, definitions, rules};
 ghost use Rattle.cddl_language.specs.Literals.{AreRight, AreTokens, Values};
 ghost use Rattle.cddl_language.specs.Terms.{Text};
@@ -13,8 +14,9 @@ ghost use Rattle.check_reached.specs.Reached.{AreReachedSites};
 ghost use Rattle.lists.specs.Least.{IsLeast};
 ghost use Rattle.tree_nodes.specs.View.{token_of, view};
 
-use crate::range_faults::bounds::bad_bounds;
-use crate::range_faults::ends::bad_end;
+use crate::range_faults::bounds::{all_bad_bounds, bad_bounds};
+use crate::range_faults::ends::{all_bad_ends, bad_end};
+use all_offsets::of_both;
 use cddl_language::live::reached_parts;
 use cddl_language::numbers_are_spelled;
 use cddl_language::written::{operand_values, site_tokens};
@@ -25,6 +27,7 @@ use check_sites::sites::Found;
 use check_terms::Terms;
 use check_terms::laws::equal_numbers;
 use lists::lesser;
+use std::alloc::{AllocError, Global};
 use tree_nodes::Tree;
 
 /// The least offset of an end of a range that is no whole number (RFC 8610 section 2.2.2.1), or of an occurrence with a minimum
@@ -49,4 +52,30 @@ pub fn bad_range(
     ends_in_ascii();
     let end = bad_end(terms, literals, asked);
     lesser(end, bad_bounds(tree, reached))
+}
+
+/// All offsets of such ends and occurrences, in ascending order, each once.
+///
+/// The rows are of this table, and the sites of this tree. It takes a time of n log n for n questions and sites, and the texts of
+/// the occurrences at the sites. An error comes only where memory is refused.
+pub fn all_bad_range(
+    alloc: Global,
+    terms: &Terms<'_>,
+    tree: &Tree<'_>,
+    literals: &Literals,
+    asked: &[Asked],
+    reached: &[Found<'_>],
+) -> Result<Vec<usize>, AllocError>
+    ensures { IfOk result (λ v. (s : Specification) (root : Text) (worth : Values) → s.tree ≡ view tree.now → AreTokens s.tree → AreRight s.tree worth → IsClear s → AreReachedSites (rules s) root (token_of tree.now) reached.now → AreLiterals (definitions s) root worth terms.now literals.now → AreAsked (rules s) root terms.now asked.now → AreOffsets (HasBadRange s worth root) v.items) }
+{
+    equal_numbers(terms);
+    reached_parts();
+    operand_values();
+    site_tokens();
+    numbers_are_spelled();
+    ends_in_ascii();
+    let ends = all_bad_ends(alloc, terms, literals, asked)?;
+    let bounds = all_bad_bounds(alloc, tree, reached)?;
+    let both = of_both(ends, &bounds)?;
+    Ok(both)
 }

@@ -2,5 +2,7 @@
 mod choices;
 mod unwrapping;
 
-pub use crate::reached_faults::choices::nothing_chosen;
-pub use crate::reached_faults::unwrapping::{not_unwrappable, not_unwrapped};
+pub use crate::reached_faults::choices::{all_nothing_chosen, nothing_chosen};
+pub use crate::reached_faults::unwrapping::{
+    all_not_unwrappable, all_not_unwrapped, not_unwrappable, not_unwrapped,
+};

@@ -3,4 +3,4 @@ mod instances;
 mod returning;
 
 pub use crate::root_faults::instances::too_many;
-pub use crate::root_faults::returning::recursion;
+pub use crate::root_faults::returning::{all_recursion, recursion};

@@ -1,5 +1,6 @@
 pub mod Clear
 pub mod Firsts
+pub mod Ordering
 pub mod Refusing
 pub mod Rooting
 pub mod Staging

@@ -1,6 +1,6 @@
 pub mod Gathering
-pub mod Lists
 pub mod OfRules
 pub mod OfSites
+pub mod Opening
 pub mod Repeating
 pub mod Roots

@@ -1,4 +1,3 @@
 pub mod Codes
-pub mod Offsets
 pub mod Rules
 pub mod Sites

@@ -1,11 +1,11 @@
 //! Laws: functions that do nothing, whose contracts are for proofs.
 
-ghost use Rattle.std.specs.Prelude.{◌≡◌, ◌≢◌, ℕ, [], None, Some, false};
+ghost use Rattle.std.specs.Prelude.{◌≡◌, ◌≢◌, ℕ, ◌<◌, [], None, Some, false};
 ghost use Rattle.check_text.specs.Codes.{all_codes, text_codes};
 ghost use Rattle.check_text.specs.First.{IsFirst};
 ghost use Rattle.check_text.specs.declared.fault.Fault.{Fault as Faults};
 ghost use Rattle.cddl_language.specs.Environment.{definitions_of, is_in_prelude};
-ghost use Rattle.cddl_language.specs.Faults.{HasBadController, HasBadRange, HasNotLiteral, HasNotUnwrappable, HasRecursion, HasTooManyInstances, IsAccepted, IsFaultAt, IsRefused, Specification, definitions, first_rule, root_of, rules};
+ghost use Rattle.cddl_language.specs.Faults.{HasBadController, HasBadRange, HasNotLiteral, HasNotUnwrappable, HasRecursion, HasTooManyInstances, IsAccepted, IsFaultAt, IsRefused, Specification, definitions, first_rule, number_of, root_of, rules};
 ghost use Rattle.cddl_language.specs.Kinds.{is_group};
 ghost use Rattle.cddl_language.specs.Literals.{Values};
 ghost use Rattle.cddl_language.specs.MapFaults.{HasMapShape, HasNoKey, HasTooManyAlternatives};
@@ -16,6 +16,7 @@ ghost use Rattle.lists.specs.Least.{IsLeast};
 ghost use Rattle.check_reading.specs.Survey.Survey.{IsSurvey};
 ghost use Rattle.check_reading.specs.declared.survey.survey.Survey.{Survey as Surveys};
 ghost use Rattle.tree_nodes.specs.Syntax.Syntax as S;
+ghost use Rattle.cddl_token.specs.declared.Code.{Code};
 ghost use Rattle.cddl_token.specs.declared.Code.TheVariants.{TooManyInstances, NotUnwrappable, Recursion, NotLiteral, BadRange, BadController, NoKey, MapShape, TooManyAlternatives};
 ghost use Rattle.tree_nodes.specs.View.{view};
 ghost use Rattle.tree_nodes.specs.declared.tree.Tree.{Tree};
@@ -47,6 +48,13 @@ pub fn root_faults_are_told()
     ensures shape { (s : Specification) (worth : Values) (root : Text) → root_of s ≡ Some root → IsFirst (IsFaultAt s worth) text_codes None → IsLeast (HasTooManyInstances s root) None → IsLeast (HasNotUnwrappable s root) None → IsLeast (HasRecursion s root) None → IsLeast (HasNotLiteral s worth root) None → IsLeast (HasBadRange s worth root) None → IsLeast (HasBadController s worth root) None → IsLeast (HasNoKey (rules s) root) None → (at : ℕ) → IsLeast (HasMapShape (rules s) root) (Some at) → IsRefused s worth MapShape at }
     ensures alternatives { (s : Specification) (worth : Values) (root : Text) → root_of s ≡ Some root → IsFirst (IsFaultAt s worth) text_codes None → IsLeast (HasTooManyInstances s root) None → IsLeast (HasNotUnwrappable s root) None → IsLeast (HasRecursion s root) None → IsLeast (HasNotLiteral s worth root) None → IsLeast (HasBadRange s worth root) None → IsLeast (HasBadController s worth root) None → IsLeast (HasNoKey (rules s) root) None → IsLeast (HasMapShape (rules s) root) None → (at : ℕ) → IsLeast (HasTooManyAlternatives (rules s) root) (Some at) → IsRefused s worth TooManyAlternatives at }
     ensures accepted { (s : Specification) (worth : Values) (root : Text) → root_of s ≡ Some root → IsFirst (IsFaultAt s worth) text_codes None → IsLeast (HasTooManyInstances s root) None → IsLeast (HasNotUnwrappable s root) None → IsLeast (HasRecursion s root) None → IsLeast (HasNotLiteral s worth root) None → IsLeast (HasBadRange s worth root) None → IsLeast (HasBadController s worth root) None → IsLeast (HasNoKey (rules s) root) None → IsLeast (HasMapShape (rules s) root) None → IsLeast (HasTooManyAlternatives (rules s) root) None → IsAccepted s worth }
+{}
+
+/// The codes of the whole text come before that of too many instances, and those of what the root reaches after it: where the
+/// text has no fault and there are not too many instances, no other one stands.
+pub fn codes_are_in_order()
+    ensures text { (s : Specification) (worth : Values) (f : Faults) → IsFirst (IsFaultAt s worth) text_codes (Some f) → number_of f.code < number_of TooManyInstances }
+    ensures reached { (s : Specification) (worth : Values) (root : Text) → root_of s ≡ Some root → IsFirst (IsFaultAt s worth) text_codes None → IsLeast (HasTooManyInstances s root) None → (code : Code) (at : ℕ) → IsFaultAt s worth code at → number_of TooManyInstances < number_of code }
 {}
 
 /// A text without a fault keeps all that is asked for its live sites to be reached.

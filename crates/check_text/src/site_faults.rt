@@ -18,5 +18,6 @@ pub use crate::site_faults::kinds::group_as_type;
 pub(crate) use crate::site_faults::kinds::group_as_type_at;
 pub(crate) use crate::site_faults::marks::{Mark, marks_of};
 pub use crate::site_faults::openings::wrong_opening;
+pub(crate) use crate::site_faults::openings::wrong_opening_at;
 pub use crate::site_faults::undefined_names::undefined;
 pub(crate) use crate::site_faults::undefined_names::undefined_at;

@@ -27,7 +27,8 @@ use Rattle.check_reached.specs.Asked as A
 use Rattle.check_reached.specs.Asked.{AreAsked, IsAsked, WasAsked, comparand_question, members_question, operand_question}
 use Rattle.lists.specs.Least.{IsLeast}
 use Rattle.lists.proofs.Lemmas.{same_least as alike}
-use Rattle.check_root.specs.RangeFaults.Telling.{IsAmong}
+use Rattle.all_offsets.specs.Offsets.{AreOffsets, IsAmong}
+use Rattle.all_offsets.proofs.Lemmas.{same_offsets}
 use Rattle.check_root.proofs.OfRangeFaults.Lemmas.{OneTerm}
 use Rattle.check_root.specs.ControlFaults.Controllers.{AreThere, IsComputed, IsThere, IsWrong, is_asked, is_not_utf8, is_wrong, is_wrong_by, is_wrong_computation, is_wrong_computed, is_wrong_type}
 use Rattle.check_root.specs.declared.control_faults.controllers.Wrong.{Wrong}
@@ -208,6 +209,17 @@ module _ (s : Specification) (worth : Values) (root : Text) where
     at_bad_controller at (F.no_number {r = r} {xs = xs} {x = x} {y = y} {o = o} {c = c} {v = v} h z g some none e) = at_controller {r = r} {xs = xs} {x = x} {y = y} {o = o} {c = c} h z (number_wrong c (literal_there s worth r xs y) (is_some (members_there s worth r xs of_size y)) v g some none) e
     at_bad_controller at (F.no_members {r = r} {xs = xs} {x = x} {y = y} {o = o} {m = m} h z none e) = at_members {r = r} {xs = xs} {x = x} {y = y} {o = o} {m = m} h z (members_wrong m (literal_there s worth r xs y) (members_there s worth r xs m y) none) e
     at_bad_controller at (F.not_utf8 {r = r} {xs = xs} {x = x} {y = y} {o = o} {c = c} {u = u} {v = v} h z left right fails e) = at_computation {r = r} {xs = xs} {x = x} {y = y} {o = o} {c = c} h z (ap is_not_utf8 (fault_there c (literal_there s worth r xs x) (literal_there s worth r xs y) u v NotUtf8 left right fails)) e
+
+module _ (s : Specification) (worth : Values) (root : Text) (t : Table) (asked : List Asked) (are : AreAsked (rules s) root t asked) (one : OneTerm t) where
+  -- all places at which it is wrong
+  all_at : (w : Wrong) (offsets : List ℕ) → AreOffsets (IsAmong (IsWrong (definitions s) worth t w) asked) offsets → AreOffsets (IsAt s worth root w) offsets
+  all_at w offsets h = same_offsets (IsAmong (IsWrong (definitions s) worth t w) asked) (IsAt s worth root w) offsets (told_at s worth root t w asked are one) (at_told s worth root t w asked are) h
+
+  pub all_not_literal : (offsets : List ℕ) → AreOffsets (IsAmong (IsWrong (definitions s) worth t WrongV.NotLiteral) asked) offsets → AreOffsets (HasNotLiteral s worth root) offsets
+  all_not_literal offsets h = same_offsets (IsAt s worth root WrongV.NotLiteral) (HasNotLiteral s worth root) offsets (not_literal_at s worth root) (at_not_literal s worth root) (all_at WrongV.NotLiteral offsets h)
+
+  pub all_bad_controller : (b : Bor Controllers) (offsets : List ℕ) → AreOffsets (IsAmong (IsWrong (definitions s) worth t (WrongV.BadController b)) asked) offsets → AreOffsets (HasBadController s worth root) offsets
+  all_bad_controller b offsets h = same_offsets (IsAt s worth root (WrongV.BadController b)) (HasBadController s worth root) offsets (bad_controller_at s worth root b) (at_bad_controller s worth root b) (all_at (WrongV.BadController b) offsets h)
 
 module _ (s : Specification) (worth : Values) (root : Text) (t : Table) (asked : List Asked) (are : AreAsked (rules s) root t asked) (one : OneTerm t) (o : Option ℕ) where
   -- the least place at which it is wrong

@@ -18,7 +18,8 @@ use Rattle.check_sites.specs.Sites.View.{view_site}
 use Rattle.cddl_language.specs.Written.Sites.{site_lexemes}
 use Rattle.check_reached.specs.Reached.{AreReachedSites}
 use Rattle.check_root.specs.RangeFaults.Bounds.{AreSmall, IsOverFound, IsOverThere, IsSmall, occur_at}
-use Rattle.check_root.specs.RangeFaults.Telling.{IsAmong}
+use Rattle.all_offsets.specs.Offsets.{IsAmong}
+use Rattle.all_offsets.proofs.Lemmas.{IsOne}
 use Rattle.check_root.proofs.OfRangeFaults.Stars.{Numbers, small_token}
 
 optional_lexeme : (o : Option Token) (t : Token) → o ≡ Some t → Contains (S.optional K.Occur o) (K.Occur, t)
@@ -30,6 +31,11 @@ occur_lexeme : (e : S.GrpEnt) (t : Token) → occur_token e ≡ Some t → Conta
 occur_lexeme (S.typed o u) t e = Contains-append_left (S.optional K.Occur o) (S.flat_types u) (K.Occur, t) (optional_lexeme o t e)
 occur_lexeme (S.keyed o k u) t e = Contains-append_left (S.optional K.Occur o) (S.flat_key k ++ S.flat_types u) (K.Occur, t) (optional_lexeme o t e)
 occur_lexeme (S.grouped o p g c) t e = Contains-append_left (S.optional K.Occur o) ((K.ParenOpen, p) ∷ (S.flat_group g ++ (K.ParenClose, c) ∷ [])) (K.Occur, t) (optional_lexeme o t e)
+
+-- an occurrence is told at one offset
+pub one_over : (o : Option Token) → IsOne (IsOverThere o)
+one_over None p q h k = absurd h
+one_over (Some t) p q h k = h.1 ∙ sym k.1
 
 -- the rule of a site that is reached, and its place
 rule_there : (rs : List S.Rule) (root : Text) (r : S.Rule) (xs : List Term) (p : Site) → IsReached rs root r xs p → Contains rs r

@@ -19,7 +19,7 @@ use Rattle.check_reached.specs.declared.asked.Question.TheVariants as QuestionV
 use Rattle.check_reached.specs.Asked as A
 use Rattle.check_reached.specs.Asked.{AreAsked, IsAsked}
 use Rattle.check_root.specs.RangeFaults.Ends.{AreEnds, AsksWhole, IsBadEnd, IsEnd}
-use Rattle.check_root.specs.RangeFaults.Telling.{IsAmong}
+use Rattle.all_offsets.specs.Offsets.{IsAmong}
 use Rattle.check_root.proofs.OfRangeFaults.Whole.{OneTerm}
 
 -- a fault that is told at an end

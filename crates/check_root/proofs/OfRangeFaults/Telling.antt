@@ -4,7 +4,7 @@ use Rattle.std.specs.List.{Contains}
 use Rattle.std.proofs.Math.ListN.{drop_of_length-le}
 use Rattle.lists.proofs.Lemmas.{at_head as at_first, first_or_later, later_in as later, lesser_least as either, next_drop, none_in, same_least as alike}
 use Rattle.lists.specs.Least.{IsLeast, lesser_of}
-use Rattle.check_root.specs.RangeFaults.Telling.{IsAmong}
+use Rattle.all_offsets.specs.Offsets.{IsAmong}
 
 read_alike : {X : Type 0} (xs : List X) (i : ℕ) (d e : X) → i < length xs → get_or xs i d ≡ get_or xs i e
 read_alike [] i d e l = absurd (below_none i l)

@@ -24,6 +24,8 @@ use Rattle.check_reached.specs.declared.asked.Question.{Question}
 use Rattle.check_reached.specs.declared.asked.Question.TheVariants as QuestionV
 use Rattle.check_reached.specs.Asked.{AreAsked, IsAsked, choosing, choosing_by_name, comparand_question, computation, controller, first_end, last_end, left_operand, members_controller, members_question, of_map, operand_question}
 use Rattle.check_root.specs.ReachedFaults.Choices.{ChoosesFromNone, from_none, from_no_name, chooses, flag_in, from_group, from_meaning, is_choosable_by_name, meaning_in, place_in, unchosen_at, unless}
+use Rattle.all_offsets.specs.Offsets.{AreOffsets, IsAtPlace, IsSaid}
+use Rattle.all_offsets.proofs.Lemmas.{all_of_members}
 use Rattle.check_root.specs.Least.{least_over}
 use Rattle.check_root.proofs.Least.{least_of_members}
 
@@ -136,3 +138,6 @@ module _ (s : Specification) (root : Text) (refs : List Ref) (t : Table) (c : Cl
 
     pub least_unchosen : IsLeast (ChoosesFromNone s root) (least_over (unchosen_at c flags) None asked)
     least_unchosen = least_of_members (unchosen_at c flags) (ChoosesFromNone s root) asked (λ a at k e. sound a at (are.sound a k) e) complete
+
+    pub all_unchosen : (offsets : List ℕ) → AreOffsets (IsAtPlace (IsSaid (λ k. unchosen_at c flags)) asked) offsets → AreOffsets (ChoosesFromNone s root) offsets
+    all_unchosen offsets found = all_of_members (unchosen_at c flags) (ChoosesFromNone s root) asked offsets (λ a at k e. sound a at (are.sound a k) e) complete found

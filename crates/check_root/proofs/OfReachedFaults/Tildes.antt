@@ -1,5 +1,5 @@
 -- What is told of `~` at the sites that a root reaches.
-use Rattle.std.proofs.Common.{◌≡◌, ℕ, ◌⊎◌, inl, inr, Bool, true, false, List, Option, Some, None, slice_get, refl, sym, ap, subst, ◌∙◌, true≢false}
+use Rattle.std.proofs.Common.{◌≡◌, ◌↔◌, ℕ, ◌⊎◌, inl, inr, Bool, true, false, List, Option, Some, None, slice_get, refl, sym, ap, subst, ◌∙◌, true≢false}
 use Rattle.lists.proofs.Lemmas.{lesser_least as either, one_of, place_of, same_least as alike}
 use Rattle.cddl_token.specs.declared.Token.{Token}
 use Rattle.tree_nodes.specs.Syntax.Syntax as S
@@ -16,6 +16,10 @@ use Rattle.check_reached.specs.Reached.{AreReachedSites}
 use Rattle.check_text.specs.SiteFaults.Openings.{IsOpenedWronglyAt, is_wrong, sort_named}
 use Rattle.check_text.specs.SiteFaults.Told.{Among, HaveRules}
 use Rattle.lists.specs.Least.{IsLeast, lesser_of}
+use Rattle.std.specs.List.{Contains}
+use Rattle.std.specs.List.Sorted.{IsStrictlyIncreasing}
+use Rattle.all_offsets.specs.Offsets.{AreOffsets}
+use Rattle.all_offsets.proofs.Lemmas.{of_either, same_offsets}
 use Rattle.check_root.specs.ReachedFaults.Choices as C
 use Rattle.check_root.specs.ReachedFaults.Choices.{ChoosesFromNone}
 use Rattle.check_root.specs.ReachedFaults.Unwrapping.{OpensWrongly, opens_nothing, opens_group_as_type}
@@ -79,17 +83,24 @@ module _ (s : Specification) (root : Text) (instances : HaveInstances (rules s) 
   pub least_tilde : (o : Option ℕ) → IsLeast Told o → IsLeast (OpensWrongly s root) o
   least_tilde o h = alike Told (OpensWrongly s root) to from o h
 
-pub both_sorts : (s : Specification) (root : Text) (a b : Option ℕ) → IsLeast (OpensWrongly s root) a → IsLeast (ChoosesFromNone s root) b → IsLeast (HasNotUnwrappable s root) (lesser_of a b)
-both_sorts s root a b h k = alike (λ p. OpensWrongly s root p ⊎ ChoosesFromNone s root p) (HasNotUnwrappable s root) to from (lesser_of a b) (either (OpensWrongly s root) (ChoosesFromNone s root) a b h k)
-  where
-    to : (p : ℕ) → OpensWrongly s root p ⊎ ChoosesFromNone s root p → HasNotUnwrappable s root p
-    to p (inl (opens_nothing h e at)) = F.opens_nothing h e at
-    to p (inl (opens_group_as_type h e at)) = F.opens_group_as_type h e at
-    to p (inr (C.from_none h e at)) = F.chooses_from_none h e at
-    to p (inr (C.from_no_name h e at)) = F.chooses_from_no_name h e at
+  pub all_tildes : (offsets : List ℕ) → AreOffsets Told offsets → AreOffsets (OpensWrongly s root) offsets
+  all_tildes offsets h = same_offsets Told (OpensWrongly s root) offsets to from h
 
-    from : (p : ℕ) → HasNotUnwrappable s root p → OpensWrongly s root p ⊎ ChoosesFromNone s root p
-    from p (F.opens_nothing h e at) = inl (opens_nothing h e at)
-    from p (F.opens_group_as_type h e at) = inl (opens_group_as_type h e at)
-    from p (F.chooses_from_none h e at) = inr (C.from_none h e at)
-    from p (F.chooses_from_no_name h e at) = inr (C.from_no_name h e at)
+module _ (s : Specification) (root : Text) where
+  of_sort : (p : ℕ) → OpensWrongly s root p ⊎ ChoosesFromNone s root p → HasNotUnwrappable s root p
+  of_sort p (inl (opens_nothing h e at)) = F.opens_nothing h e at
+  of_sort p (inl (opens_group_as_type h e at)) = F.opens_group_as_type h e at
+  of_sort p (inr (C.from_none h e at)) = F.chooses_from_none h e at
+  of_sort p (inr (C.from_no_name h e at)) = F.chooses_from_no_name h e at
+
+  sort_of_it : (p : ℕ) → HasNotUnwrappable s root p → OpensWrongly s root p ⊎ ChoosesFromNone s root p
+  sort_of_it p (F.opens_nothing h e at) = inl (opens_nothing h e at)
+  sort_of_it p (F.opens_group_as_type h e at) = inl (opens_group_as_type h e at)
+  sort_of_it p (F.chooses_from_none h e at) = inr (C.from_none h e at)
+  sort_of_it p (F.chooses_from_no_name h e at) = inr (C.from_no_name h e at)
+
+  pub both_sorts : (a b : Option ℕ) → IsLeast (OpensWrongly s root) a → IsLeast (ChoosesFromNone s root) b → IsLeast (HasNotUnwrappable s root) (lesser_of a b)
+  both_sorts a b h k = alike (λ p. OpensWrongly s root p ⊎ ChoosesFromNone s root p) (HasNotUnwrappable s root) of_sort sort_of_it (lesser_of a b) (either (OpensWrongly s root) (ChoosesFromNone s root) a b h k)
+
+  pub all_sorts : (xs ys zs : List ℕ) → AreOffsets (OpensWrongly s root) xs → AreOffsets (ChoosesFromNone s root) ys → IsStrictlyIncreasing zs → ((p : ℕ) → Contains zs p ↔ (Contains xs p ⊎ Contains ys p)) → AreOffsets (HasNotUnwrappable s root) zs
+  all_sorts xs ys zs h k rising each = same_offsets (λ p. OpensWrongly s root p ⊎ ChoosesFromNone s root p) (HasNotUnwrappable s root) zs of_sort sort_of_it (of_either (OpensWrongly s root) (ChoosesFromNone s root) xs ys zs h k rising each)

@@ -28,7 +28,10 @@ use Rattle.check_instances.specs.declared.closed.closed.Meaning.{Meaning}
 use Rattle.check_instances.specs.Closed.Closed.{IsMeaning}
 use Rattle.check_recursion.specs.Order.{AreCycles}
 use Rattle.lists.specs.Least.{IsLeast}
-use Rattle.check_root.specs.RootFaults.Starts.{least_start, meaning_start, name_start, number_start, place_start, row_start, rule_start, start_at, start_if}
+use Rattle.check_root.specs.RootFaults.Starts.{least_start, meaning_start, name_start, number_start, or_first_byte, place_start, row_start, rule_start, start_at, start_if}
+use Rattle.lists.proofs.Lemmas.{at_head, none_in}
+use Rattle.all_offsets.specs.Offsets.{AreOffsets, IsAtPlace, IsSaid}
+use Rattle.all_offsets.proofs.Lemmas.{all_at_places, one_alone, same_offsets}
 use Rattle.check_root.proofs.Least.{least_at_places}
 
 there_is : {A : Type 0} (xs : List A) (i : ℕ) → i < length xs → (x : A) × (slice_get xs i ≡ Some x)
@@ -139,6 +142,28 @@ module _ (t : Table) (tree : Tree) (names : List Name) (closed : Closed) (s : Sp
 
     pub least_recursion : IsLeast (HasRecursion s root) (Some (unwrap_or (least_start t tree names closed flags) 0))
     least_recursion = told (least_start t tree names closed flags) least_rule
+
+    -- All of these, or the first byte where there are none.
+    all_told : (offsets : List ℕ) → AreOffsets IsToldAt offsets → AreOffsets (HasRecursion s root) (or_first_byte offsets)
+    all_told [] are = one_alone (HasRecursion s root) 0 (without_rule cycles.one.1 no_rule refl) only
+      where
+        no_rule : (r : S.Rule) → IsRuleOnCycle s root r → ⊥
+        no_rule r on = none_in (name_at r) ((are.exactly (name_at r)).1 (r, on, refl))
+
+        only : (p : ℕ) → HasRecursion s root p → p ≡ 0
+        only p (at_rule {r = r} on e) = absurd (no_rule r on)
+        only p (without_rule c none e) = e
+    all_told (at ∷ more) are = same_offsets IsToldAt (HasRecursion s root) (at ∷ more) to from are
+      where
+        to : (p : ℕ) → IsToldAt p → HasRecursion s root p
+        to p (r, on, e) = at_rule on e
+
+        from : (p : ℕ) → HasRecursion s root p → IsToldAt p
+        from p (at_rule {r = r} on e) = (r, on, e)
+        from p (without_rule c none e) = let h = (are.exactly at).0 (at_head at more) in absurd (none h.0 h.1)
+
+    pub all_recursion : (offsets : List ℕ) → AreOffsets (IsAtPlace (IsSaid (start_if t tree names closed)) flags) offsets → AreOffsets (HasRecursion s root) (or_first_byte offsets)
+    all_recursion offsets are = all_told offsets (all_at_places (start_if t tree names closed) IsToldAt flags offsets sound complete are)
 
 pub none_comes : (s : Specification) (root : Text) → ((p : Point) → LeadsBack (definitions s) root p → ⊥) → (at : ℕ) → HasRecursion s root at → ⊥
 none_comes s root none at (at_rule h e) = none h.point h.cycle.back

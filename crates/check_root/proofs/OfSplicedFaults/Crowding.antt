@@ -20,6 +20,8 @@ use Rattle.check_reached.specs.declared.asked.Question.TheVariants as QuestionV
 use Rattle.check_reached.specs.Asked.{AreAsked, IsAsked, choosing, choosing_by_name, comparand_question, computation, controller, first_end, last_end, left_operand, members_controller, members_question, of_map, operand_question}
 use Rattle.lists.specs.Least.{IsLeast}
 use Rattle.check_terms.specs.Table.{Table}
+use Rattle.all_offsets.specs.Offsets.{AreOffsets, IsAtPlace, IsSaid}
+use Rattle.all_offsets.proofs.Lemmas.{all_at_places}
 use Rattle.check_root.specs.Least.{least_over}
 use Rattle.check_root.specs.SplicedFaults.Lookups as L
 use Rattle.check_root.specs.SplicedFaults.Lookups.{crowded_at, crowded_by, told_if}
@@ -89,3 +91,6 @@ module _ (s : Specification) (root : Text) (inside : AreGroupsReached s root) (t
 
   pub least_crowded : IsLeast (HasTooManyAlternatives (rules s) root) (least_over (crowded_at faults) None asked)
   least_crowded = least_of_all (crowded_at faults) (HasTooManyAlternatives (rules s) root) asked sound complete
+
+  pub all_crowded : (offsets : List ℕ) → AreOffsets (IsAtPlace (IsSaid (λ k. crowded_at faults)) asked) offsets → AreOffsets (HasTooManyAlternatives (rules s) root) offsets
+  all_crowded offsets are = all_at_places (λ k. crowded_at faults) (HasTooManyAlternatives (rules s) root) asked offsets sound complete are

@@ -10,6 +10,8 @@ use Rattle.check_maps.specs.declared.spliced.listing.Spliced.{Spliced}
 use Rattle.check_maps.specs.Spliced.Spliced.{AreSpliced}
 use Rattle.lists.specs.Least.{IsLeast}
 use Rattle.check_terms.specs.Table.{Table}
+use Rattle.all_offsets.specs.Offsets.{AreOffsets, IsAtPlace, IsSaid}
+use Rattle.all_offsets.proofs.Lemmas.{all_at_places}
 use Rattle.check_root.specs.Least.{least_over}
 use Rattle.check_root.specs.SplicedFaults.Lookups as L
 use Rattle.check_root.specs.SplicedFaults.Lookups.{keyless_at, told_if}
@@ -40,3 +42,6 @@ module _ (s : Specification) (root : Text) (t : Table) (refs : List Ref) (splice
 
   pub least_keyless : IsLeast (HasNoKey (rules s) root) (least_over (keyless_at faults) None spliced)
   least_keyless = least_of_all (keyless_at faults) (HasNoKey (rules s) root) spliced sound complete
+
+  pub all_keyless : (offsets : List ℕ) → AreOffsets (IsAtPlace (IsSaid (λ k. keyless_at faults)) spliced) offsets → AreOffsets (HasNoKey (rules s) root) offsets
+  all_keyless offsets are = all_at_places (λ k. keyless_at faults) (HasNoKey (rules s) root) spliced offsets sound complete are

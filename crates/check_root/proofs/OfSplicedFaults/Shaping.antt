@@ -14,6 +14,8 @@ use Rattle.check_maps.specs.Spliced.Spliced.{AreSpliced, IsSplicedEntry, of_poin
 use Rattle.lists.specs.Least.{IsLeast}
 use Rattle.check_terms.specs.Table.{Table}
 use Rattle.check_maps.specs.MapCycles.Coming.{AreComingBack, LeadsBack}
+use Rattle.all_offsets.specs.Offsets.{AreOffsets, IsAtPlace, IsSaid}
+use Rattle.all_offsets.proofs.Lemmas.{all_at_places}
 use Rattle.check_root.specs.Least.{least_from}
 use Rattle.check_root.specs.SplicedFaults.Lookups as L
 use Rattle.check_root.specs.SplicedFaults.Lookups.{flag_in, is_set, shape_at, told_if}
@@ -62,3 +64,6 @@ module _ (s : Specification) (root : Text) (have : HaveReferences (rules s) root
 
   pub least_shape : IsLeast (HasMapShape (rules s) root) (least_from (shape_at faults coming) 0 None spliced)
   least_shape = least_at_places (shape_at faults coming) (HasMapShape (rules s) root) spliced sound complete
+
+  pub all_shapes : (offsets : List ℕ) → AreOffsets (IsAtPlace (IsSaid (shape_at faults coming)) spliced) offsets → AreOffsets (HasMapShape (rules s) root) offsets
+  all_shapes offsets are = all_at_places (shape_at faults coming) (HasMapShape (rules s) root) spliced offsets sound complete are

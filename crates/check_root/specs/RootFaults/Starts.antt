@@ -47,6 +47,11 @@ start_at t tree names closed k = meaning_start t tree names (slice_get closed.me
 abbrev pub start_if : Table → Tree → List Name → Closed → ℕ → Bool → Option ℕ
 start_if t tree names closed k flag = if flag then start_at t tree names closed k else None
 
+-- where no rule begins, the first byte
+abbrev pub or_first_byte : List ℕ → List ℕ
+or_first_byte [] = 0 ∷ []
+or_first_byte (at ∷ more) = at ∷ more
+
 -- the least of the offsets that flags tell
 abbrev pub least_start : Table → Tree → List Name → Closed → List Bool → Option ℕ
 least_start t tree names closed flags = least_from (start_if t tree names closed) 0 None flags

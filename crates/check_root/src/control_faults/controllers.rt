@@ -1,6 +1,6 @@
 //! What is wrong with what stands beside controls, by rows.
 
-ghost use Rattle.std.specs.Prelude.{◌≡◌, List, Some, true};
+ghost use Rattle.std.specs.Prelude.{◌≡◌, IfOk, List, Some, true};
 ghost use Rattle.std.specs.Option.{option_map};
 ghost use Rattle.check_root.specs.ControlFaults.Controllers as by;
 ghost use Rattle.check_root.specs.ControlFaults.Controllers.{AreFlags, AreThere, IsThere, IsWrong, has_members, is_asked, membership_asked};
@@ -9,12 +9,13 @@ ghost use Rattle.cddl_language.specs.Terms as L;
 ghost use Rattle.cddl_language.specs.Terms.{Text};
 ghost use Rattle.cddl_literal.specs.Literals.{view};
 ghost use Rattle.check_literals.specs.Literals.{AreLiterals};
-ghost use Rattle.check_root.specs.RangeFaults.Telling.{IsAmong};
+ghost use Rattle.all_offsets.specs.Offsets.{AreOffsets, IsAmong};
 ghost use Rattle.check_literals.specs.Sizes.Sizes.{flag_at, flags_of};
 ghost use Rattle.lists.specs.Least.{IsLeast};
 
 use crate::control_faults::computations::is_wrong_control;
 use crate::control_faults::operands::{is_number, is_string};
+use all_offsets::{push_found, sort};
 use cddl_literal::Literal;
 use check_literals::Literals;
 use check_literals::sizes::Controllers;
@@ -23,6 +24,7 @@ use check_terms::Terms;
 use check_terms::laws::equal_numbers;
 use check_terms::texts::Membership;
 use lists::lesser;
+use std::alloc::{AllocError, Global};
 
 /// What can be wrong with what stands beside a control.
 #[derive(Clone, Copy)]
@@ -48,6 +50,24 @@ pub(crate) fn least_wrong(
         least = lesser(least, wrong_at(terms, literals, *question, wrong));
     }
     least
+}
+
+// All offsets at which this is wrong, in ascending order, each once.
+pub(crate) fn all_wrong(
+    alloc: Global,
+    terms: &Terms<'_>,
+    literals: &Literals,
+    asked: &[Asked],
+    wrong: Wrong<'_>,
+) -> Result<Vec<usize>, AllocError>
+    ensures { IfOk result (λ v. (xs : List L.Definition) (root : Text) (worth : Values) → AreLiterals xs root worth terms.now literals.now → AreFlags xs root worth terms.now wrong.entry → AreThere xs root worth terms.now asked.now → AreOffsets (IsAmong (IsWrong xs worth terms.now wrong.entry) asked.now) v.items) }
+{
+    let mut offsets = Vec::new(alloc);
+    for question in asked {
+        push_found(&mut offsets, wrong_at(terms, literals, *question, wrong))?;
+    }
+    sort(&mut offsets);
+    Ok(offsets)
 }
 
 fn wrong_at(terms: &Terms<'_>, literals: &Literals, asked: Asked, wrong: Wrong<'_>) -> Option<usize>

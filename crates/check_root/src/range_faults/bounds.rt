@@ -1,10 +1,10 @@
 //! Occurrences with a minimum over their maximum.
 
-ghost use Rattle.std.specs.Prelude.{◌≡◌, ◌↔◌, IsTrue, Some};
+ghost use Rattle.std.specs.Prelude.{◌≡◌, ◌↔◌, IfOk, IsTrue, Some};
 ghost use Rattle.cddl_language.specs.Faults.{IsOver};
 ghost use Rattle.cddl_language.specs.Numbers.{least_in, most_in};
 ghost use Rattle.check_root.specs.RangeFaults.Bounds.{AreSmall, IsOverFound, IsOverThere, IsOverToken, IsSmall, occur_at};
-ghost use Rattle.check_root.specs.RangeFaults.Telling.{IsAmong};
+ghost use Rattle.all_offsets.specs.Offsets.{AreOffsets, IsAmong};
 ghost use Rattle.check_sites.specs.Sites.View.{view_site};
 ghost use Rattle.lists.specs.Least.{IsLeast};
 ghost use Rattle.check_terms.specs.Texts.Occurrence.{IsTooGreat};
@@ -12,10 +12,12 @@ ghost use Rattle.cddl_token.specs.declared.Token.{Token};
 ghost use Rattle.tree_nodes.specs.View.{leaf, token_of};
 ghost use Rattle.tree_nodes.specs.declared.tree.Leaf.{Leaf};
 
+use all_offsets::{push_found, sort};
 use cddl_token::Token;
 use check_sites::sites::{Found, Site, occur};
 use check_terms::texts::occurrence_of;
 use lists::lesser;
+use std::alloc::{AllocError, Global};
 use tree_nodes::{Leaf, Tree};
 
 // The least offset of an occurrence with a minimum over its maximum, at these sites.
@@ -27,6 +29,22 @@ pub(crate) fn bad_bounds(tree: &Tree<'_>, reached: &[Found<'_>]) -> Option<usize
         least = lesser(least, bad_bounds_at(tree, found.site));
     }
     least
+}
+
+// All offsets of these, in ascending order, each once.
+pub(crate) fn all_bad_bounds(
+    alloc: Global,
+    tree: &Tree<'_>,
+    reached: &[Found<'_>],
+) -> Result<Vec<usize>, AllocError>
+    ensures { IfOk result (λ v. AreSmall (token_of tree.now) reached.now → AreOffsets (IsAmong (IsOverFound (token_of tree.now)) reached.now) v.items) }
+{
+    let mut offsets = Vec::new(alloc);
+    for found in reached {
+        push_found(&mut offsets, bad_bounds_at(tree, found.site))?;
+    }
+    sort(&mut offsets);
+    Ok(offsets)
 }
 
 fn bad_bounds_at(tree: &Tree<'_>, site: Site<'_>) -> Option<usize>

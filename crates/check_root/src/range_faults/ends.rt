@@ -1,6 +1,6 @@
 //! Ends of ranges that are no whole numbers.
 
-ghost use Rattle.std.specs.Prelude.{◌≡◌, List};
+ghost use Rattle.std.specs.Prelude.{◌≡◌, IfOk, List};
 ghost use Rattle.std.specs.Option.{option_map};
 ghost use Rattle.cddl_language.specs.Literals.{Values};
 ghost use Rattle.cddl_language.specs.Terms as L;
@@ -9,15 +9,17 @@ ghost use Rattle.cddl_literal.specs.Literals.{view};
 ghost use Rattle.check_literals.specs.Literals.{AreLiterals, literal_at};
 ghost use Rattle.check_root.specs.RangeFaults.Ends as by;
 ghost use Rattle.check_root.specs.RangeFaults.Ends.{AreEnds, AsksWhole, IsBadEnd, IsEnd};
-ghost use Rattle.check_root.specs.RangeFaults.Telling.{IsAmong};
+ghost use Rattle.all_offsets.specs.Offsets.{AreOffsets, IsAmong};
 ghost use Rattle.lists.specs.Least.{IsLeast};
 
+use all_offsets::{push_found, sort};
 use cddl_literal::Literal;
 use check_literals::Literals;
 use check_reached::{Asked, Question};
 use check_terms::Terms;
 use check_terms::laws::equal_numbers;
 use lists::lesser;
+use std::alloc::{AllocError, Global};
 
 // The least offset of what was asked whether it is a whole number, and is none.
 pub(crate) fn bad_end(terms: &Terms<'_>, literals: &Literals, asked: &[Asked]) -> Option<usize>
@@ -28,6 +30,23 @@ pub(crate) fn bad_end(terms: &Terms<'_>, literals: &Literals, asked: &[Asked]) -
         least = lesser(least, bad_end_at(terms, literals, *question));
     }
     least
+}
+
+// All offsets of these, in ascending order, each once.
+pub(crate) fn all_bad_ends(
+    alloc: Global,
+    terms: &Terms<'_>,
+    literals: &Literals,
+    asked: &[Asked],
+) -> Result<Vec<usize>, AllocError>
+    ensures { IfOk result (λ v. (xs : List L.Definition) (root : Text) (worth : Values) → AreLiterals xs root worth terms.now literals.now → AreEnds xs root worth terms.now asked.now → AreOffsets (IsAmong (IsBadEnd xs worth terms.now) asked.now) v.items) }
+{
+    let mut offsets = Vec::new(alloc);
+    for question in asked {
+        push_found(&mut offsets, bad_end_at(terms, literals, *question))?;
+    }
+    sort(&mut offsets);
+    Ok(offsets)
 }
 
 fn bad_end_at(terms: &Terms<'_>, literals: &Literals, asked: Asked) -> Option<usize>

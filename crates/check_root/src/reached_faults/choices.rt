@@ -1,6 +1,7 @@
 //! What `&` chooses from.
 
-ghost use Rattle.std.specs.Prelude.{◌≡◌, List, None, option_copied, slice_get};
+ghost use Rattle.std.specs.Prelude.{◌≡◌, IfOk, List, None, option_copied, slice_get};
+ghost use Rattle.all_offsets.specs.Offsets.{AreOffsets, IsAtPlace, IsSaid};
 ghost use Rattle.check_groups.specs.Choosing.Choosing.{AreChoosable};
 ghost use Rattle.check_instances.specs.Closed.Closed.{IsClosed};
 ghost use Rattle.cddl_language.specs.Faults.{Specification, definitions, rules};
@@ -12,6 +13,7 @@ ghost use Rattle.check_root.specs.ReachedFaults.Choices.{ChoosesFromNone, flag_i
 ghost use Rattle.check_root.specs.Least.{least_over};
 ghost use Rattle.lists.specs.Least.{IsLeast};
 
+use all_offsets::{push_found, sort};
 use cddl_language::live::reached_parts;
 use check_instances::closed::laws::{
     meaning_at, meanings_are_reached, place_of as places_are_told,
@@ -20,6 +22,7 @@ use check_instances::closed::{Closed, Meaning};
 use check_reached::{Asked, Question};
 use check_terms::Terms;
 use lists::lesser;
+use std::alloc::{AllocError, Global};
 
 /// The least offset of `&` of a group, or of a group's name, from which it cannot choose (RFC 8610 section 2.2.2.2).
 ///
@@ -37,6 +40,42 @@ pub fn nothing_chosen(
     meaning_at();
     meanings_are_reached();
     least_unchosen(closed, choosable, asked)
+}
+
+/// All offsets of such an `&`, in ascending order, each once.
+///
+/// The rows are of this table. It takes a time of n log n for n questions. An error comes only where memory is refused.
+pub fn all_nothing_chosen(
+    alloc: Global,
+    terms: &Terms<'_>,
+    closed: &Closed,
+    choosable: &[bool],
+    asked: &[Asked],
+) -> Result<Vec<usize>, AllocError>
+    ensures { IfOk result (λ v. (s : Specification) (root : Text) (refs : List Ref) → IsClear s → IsClosed (definitions s) root refs terms.now closed.now → AreChoosable (definitions s) root terms.now choosable.now → AreAsked (rules s) root terms.now asked.now → AreOffsets (ChoosesFromNone s root) v.items) }
+{
+    reached_parts();
+    places_are_told(terms);
+    meaning_at();
+    meanings_are_reached();
+    all_unchosen(alloc, closed, choosable, asked)
+}
+
+fn all_unchosen(
+    alloc: Global,
+    closed: &Closed,
+    choosable: &[bool],
+    asked: &[Asked],
+) -> Result<Vec<usize>, AllocError>
+    ensures { IfOk result (λ v. AreOffsets (IsAtPlace (IsSaid (λ k. by.unchosen_at closed.now choosable.now)) asked.now) v.items) }
+{
+    let mut offsets = Vec::new(alloc);
+    for question in asked {
+        let wrong = unchosen_at(closed, choosable, *question);
+        push_found(&mut offsets, wrong)?;
+    }
+    sort(&mut offsets);
+    Ok(offsets)
 }
 
 fn least_unchosen(closed: &Closed, choosable: &[bool], asked: &[Asked]) -> Option<usize>

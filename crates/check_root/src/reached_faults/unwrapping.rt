@@ -1,6 +1,7 @@
 //! What `~` opens, and C11 as a whole.
 
 ghost use Rattle.std.specs.Prelude.{◌≡◌, IfOk};
+ghost use Rattle.all_offsets.specs.Offsets.{AreOffsets};
 ghost use Rattle.cddl_language.specs.Faults.{HasNotUnwrappable, Specification, rules};
 ghost use Rattle.cddl_language.specs.Terms.{Text};
 ghost use Rattle.check_reached.specs.Reached.{AreReachedSites};
@@ -10,10 +11,12 @@ ghost use Rattle.lists.specs.Least.{IsLeast};
 ghost use Rattle.check_reading.specs.Survey.Survey.{IsSurvey};
 ghost use Rattle.tree_nodes.specs.View.{token_of, view};
 
+use all_offsets::of_both;
 use cddl_language::live::reached_sites;
 use check_reading::survey::Survey;
 use check_sites::sites::Found;
 use check_terms::Terms;
+use check_text::everywhere::wrong_openings;
 use check_text::site_faults::wrong_opening;
 use lists::lesser;
 use std::alloc::{AllocError, Global};
@@ -35,6 +38,31 @@ pub fn not_unwrapped(
 {
     reached_sites();
     wrong_opening(alloc, terms, tree, survey, reached)
+}
+
+/// All offsets of such a `~`, in ascending order, each once.
+///
+/// It takes a time of n log n for the n sites that are reached, the texts of their tokens and the parameters of all rules. An
+/// error comes only where memory is refused, or where the table has more texts than there are numbers of 32 bits.
+pub fn all_not_unwrapped(
+    alloc: Global,
+    terms: &Terms<'_>,
+    tree: &Tree<'_>,
+    survey: &Survey<'_>,
+    reached: &[Found<'_>],
+) -> Result<Vec<usize>, AllocError>
+    ensures { IfOk result (λ v. (s : Specification) (root : Text) → s.tree ≡ view tree.now → IsSurvey terms.now tree.now survey.now → AreReachedSites (rules s) root (token_of tree.now) reached.now → AreOffsets (OpensWrongly s root) v.items) }
+{
+    reached_sites();
+    wrong_openings(alloc, terms, tree, survey, reached)
+}
+
+/// All offsets of C11, those of `~` and those of `&`, in ascending order, each once. An error comes only where memory is refused.
+pub fn all_not_unwrappable(opens: Vec<usize>, chooses: &[usize]) -> Result<Vec<usize>, AllocError>
+    ensures { IfOk result (λ v. (s : Specification) (root : Text) → AreOffsets (OpensWrongly s root) opens.items → AreOffsets (ChoosesFromNone s root) chooses.now → AreOffsets (HasNotUnwrappable s root) v.items) }
+{
+    let both = of_both(opens, chooses)?;
+    Ok(both)
 }
 
 /// The least offset of C11, of those of `~` and of `&`.

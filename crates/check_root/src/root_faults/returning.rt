@@ -1,6 +1,7 @@
 //! Instances that come back to themselves before an item is taken or gone into (C12).
 
-ghost use Rattle.std.specs.Prelude.{◌≡◌, List, length};
+ghost use Rattle.std.specs.Prelude.{◌≡◌, IfOk, List, length};
+ghost use Rattle.all_offsets.specs.Offsets.{AreOffsets, IsAtPlace, IsSaid};
 ghost use Rattle.check_instances.specs.Closed.Closed.{IsClosed};
 ghost use Rattle.check_names.specs.Environment.Names.{AreNames};
 ghost use Rattle.cddl_language.specs.Faults.{HasRecursion, Specification, definitions as definitions_of};
@@ -9,12 +10,13 @@ ghost use Rattle.cddl_language.specs.Reading.{name_at};
 ghost use Rattle.cddl_language.specs.Terms.{Ref, Text};
 ghost use Rattle.check_recursion.specs.Order.{IsOrder};
 ghost use Rattle.check_root.specs.RootFaults.Starts as by;
-ghost use Rattle.check_root.specs.RootFaults.Starts.{least_start};
+ghost use Rattle.check_root.specs.RootFaults.Starts.{least_start, or_first_byte};
 ghost use Rattle.lists.specs.Least.{IsLeast};
 ghost use Rattle.check_terms.specs.Definitions.{AreDefinitions};
 ghost use Rattle.check_terms.specs.declared.definition.Definition.{Definition};
 ghost use Rattle.tree_nodes.specs.View.{token_of, view, view_rule};
 
+use all_offsets::{push_found, sort};
 use check_instances::closed::Closed;
 use check_instances::closed::laws::meaning_at;
 use check_names::environment::Name;
@@ -22,6 +24,7 @@ use check_names::environment::laws::names_stand;
 use check_recursion::Order;
 use check_terms::Terms;
 use lists::lesser;
+use std::alloc::{AllocError, Global};
 use tree_nodes::{Rule, Tree};
 
 /// The least offset of the first rule of a name whose instance comes back to itself (C12): by itself, after `~` or after `&` it
@@ -47,6 +50,60 @@ pub fn recursion(
             Some(first.unwrap_or(0))
         }
     }
+}
+
+/// All offsets of the first rules of such names, in ascending order, each once; or the first byte, where no name that comes back
+/// has one.
+///
+/// It takes a time of n log n for n instances. An error comes only where memory is refused.
+pub fn all_recursion(
+    alloc: Global,
+    terms: &Terms<'_>,
+    tree: &Tree<'_>,
+    names: &[Name],
+    closed: &Closed,
+    order: &Order,
+) -> Result<Vec<usize>, AllocError>
+    ensures { IfOk result (λ v. (s : Specification) (root : Text) (refs : List Ref) (known definitions : List Definition) → s.tree ≡ view tree.now → AreDefinitions terms.now known prelude → AreDefinitions terms.now definitions (definitions_of s) → AreNames (length terms.now.texts) known definitions names.now → IsClosed (definitions_of s) root refs terms.now closed.now → IsOrder (definitions_of s) root refs terms.now order.now → AreOffsets (HasRecursion s root) v.items) }
+{
+    names_stand();
+    meaning_at();
+    match order {
+        Order::Ranks(_) => Ok(Vec::new(alloc)),
+        Order::Cycles(flags) => {
+            or_first_byte(all_starts(alloc, terms, tree, names, closed, flags)?)
+        }
+    }
+}
+
+// These offsets, or that of the first byte where there are none.
+fn or_first_byte(mut offsets: Vec<usize>) -> Result<Vec<usize>, AllocError>
+    ensures { IfOk result (λ v. v.items ≡ or_first_byte offsets.items) }
+{
+    if offsets.is_empty() {
+        offsets.push(0)?;
+    }
+    Ok(offsets)
+}
+
+// The offsets of the first rules of the names of all instances with a flag.
+fn all_starts(
+    alloc: Global,
+    terms: &Terms<'_>,
+    tree: &Tree<'_>,
+    names: &[Name],
+    closed: &Closed,
+    flags: &[bool],
+) -> Result<Vec<usize>, AllocError>
+    ensures { IfOk result (λ v. AreOffsets (IsAtPlace (IsSaid (by.start_if terms.now tree.now names.now closed.now)) flags.now) v.items) }
+{
+    let mut offsets = Vec::new(alloc);
+    for (place, flag) in flags.iter().enumerate() {
+        let start = start_if(terms, tree, names, closed, place, *flag);
+        push_found(&mut offsets, start)?;
+    }
+    sort(&mut offsets);
+    Ok(offsets)
 }
 
 // The least offset of the first rules of the names of all instances with a flag.

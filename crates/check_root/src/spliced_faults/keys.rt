@@ -1,6 +1,7 @@
 //! Entries without keys.
 
-ghost use Rattle.std.specs.Prelude.{◌≡◌, List};
+ghost use Rattle.std.specs.Prelude.{◌≡◌, IfOk, List};
+ghost use Rattle.all_offsets.specs.Offsets.{AreOffsets, IsAtPlace, IsSaid};
 ghost use Rattle.cddl_language.specs.Faults.{Specification, definitions, rules};
 ghost use Rattle.cddl_language.specs.MapFaults.{HasNoKey};
 ghost use Rattle.cddl_language.specs.Terms.{Ref, Text};
@@ -12,9 +13,11 @@ ghost use Rattle.lists.specs.Least.{IsLeast};
 ghost use Rattle.check_terms.specs.Table.{Table};
 
 use crate::spliced_faults::lookups::{faults_of, told_if};
+use all_offsets::{push_found, sort};
 use check_maps::map_faults::MapFaults;
 use check_maps::spliced::Spliced;
 use lists::lesser;
+use std::alloc::{AllocError, Global};
 
 /// The least offset of an entry of a map that has no key and is no group (RFC 8610 section 3.5).
 ///
@@ -23,6 +26,34 @@ pub fn no_key(spliced: &[Spliced], faults: &[MapFaults]) -> Option<usize>
     ensures { (s : Specification) (root : Text) (t : Table) (refs : List Ref) → AreSpliced (rules s) root t refs spliced.now → AreFaults (definitions s) root t faults.now → IsLeast (HasNoKey (rules s) root) result }
 {
     least_keyless(spliced, faults)
+}
+
+/// All offsets of such entries, in ascending order, each once.
+///
+/// It takes a time of n log n for n entries. An error comes only where memory is refused.
+pub fn all_no_key(
+    alloc: Global,
+    spliced: &[Spliced],
+    faults: &[MapFaults],
+) -> Result<Vec<usize>, AllocError>
+    ensures { IfOk result (λ v. (s : Specification) (root : Text) (t : Table) (refs : List Ref) → AreSpliced (rules s) root t refs spliced.now → AreFaults (definitions s) root t faults.now → AreOffsets (HasNoKey (rules s) root) v.items) }
+{
+    all_keyless(alloc, spliced, faults)
+}
+
+fn all_keyless(
+    alloc: Global,
+    spliced: &[Spliced],
+    faults: &[MapFaults],
+) -> Result<Vec<usize>, AllocError>
+    ensures { IfOk result (λ v. AreOffsets (IsAtPlace (IsSaid (λ k. by.keyless_at faults.now)) spliced.now) v.items) }
+{
+    let mut offsets = Vec::new(alloc);
+    for entry in spliced {
+        push_found(&mut offsets, keyless_at(faults, *entry))?;
+    }
+    sort(&mut offsets);
+    Ok(offsets)
 }
 
 fn least_keyless(spliced: &[Spliced], faults: &[MapFaults]) -> Option<usize>

@@ -15,7 +15,7 @@ use Rattle.check_sites.specs.declared.sites.site.Found.{Found}
 use Rattle.check_sites.specs.Sites.View.{view_found, view_site}
 use Rattle.check_sites.specs.Sites.Walk.{all_sites}
 use Rattle.lists.proofs.Lemmas.{at_head, either, first_or_later, later, none_in, one_of}
-use Rattle.check_text.specs.Everywhere.Offsets.{AreOf, Gains}
+use Rattle.all_offsets.specs.Offsets.{AreOf, Gains}
 use Rattle.check_text.specs.SiteFaults.Told.{Among, IsToldAt}
 use Rattle.check_text.proofs.OfRuleFaults.Telling.{OneOf}
 use Rattle.check_text.proofs.OfSiteFaults.Telling.{AllFound, FoundStand, IsTold, next_drop, there_told, told_there}

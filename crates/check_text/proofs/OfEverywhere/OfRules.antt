@@ -7,14 +7,14 @@ use Rattle.cddl_language.specs.Terms as L
 use Rattle.cddl_language.specs.Faults.{HasWrongArity, Specification, by_rule, parameter_count, rules}
 use Rattle.cddl_language.specs.Reading.{definitions_in, name_in, rules_of}
 use Rattle.check_reading.specs.Survey.Survey.{defined_in}
-use Rattle.check_text.specs.Everywhere.Offsets.{AreOf}
+use Rattle.all_offsets.specs.Offsets.{AreOf}
 use Rattle.check_text.specs.Everywhere.Rules.{IsToldAtRule, IsToldAtRules}
 use Rattle.check_text.specs.RuleFaults.Arity.{HasOtherCount, HasWrongArityAtRule}
 use Rattle.check_text.specs.RuleFaults.Kinds.{IsClashAt}
 use Rattle.check_text.specs.SiteFaults.Sites.{HasWrongArityAtName}
 use Rattle.check_text.specs.declared.everywhere.rules.RuleCode.{RuleCode}
 use Rattle.check_text.specs.declared.everywhere.rules.RuleCode.TheVariants.{Duplicate, KindClash, Arity}
-use Rattle.check_text.proofs.OfEverywhere.Lists.{IsOne, of_both, same_of}
+use Rattle.all_offsets.proofs.Lemmas.{IsOne, of_both, same_of}
 use Rattle.check_text.proofs.OfRuleFaults.Clashes.{clash_at_rule, clash_in_text}
 use Rattle.check_text.proofs.OfRuleFaults.Equals.{duplicate_at_rule, duplicate_in_text}
 use Rattle.check_text.proofs.OfRuleFaults.Rules.{rules_view}

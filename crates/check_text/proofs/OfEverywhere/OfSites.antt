@@ -5,12 +5,12 @@ use Rattle.cddl_language.specs.Terms.{Definition}
 use Rattle.cddl_language.specs.Faults.{HasBadHash, HasGroupAsType, HasUnknownControl, IsUndefined, Specification, definitions}
 use Rattle.cddl_language.specs.Reading.{definitions_in, rules_of}
 use Rattle.cddl_language.specs.Sites.{Site, a_name, an_unwrapping, a_choice_of, a_choice_of_name, a_hash, an_operation, an_entry, a_map, arguments, ref_at_site}
-use Rattle.check_text.specs.Everywhere.Offsets.{AreOf}
+use Rattle.all_offsets.specs.Offsets.{AreOf}
 use Rattle.check_text.specs.Everywhere.Sites.{IsToldAtSite, IsToldAtSites}
 use Rattle.check_text.specs.SiteFaults.Sites.{HasWrongArityAtName, IsBadHashAt, IsGroupAsTypeAt, IsUndefinedAt, IsUndefinedName, IsUnknownControlAt, IsWrongArityAt, OfKind, OfRef, count_wanted, is_other_than, kind_refused}
 use Rattle.check_text.specs.declared.everywhere.sites.SiteCode.{SiteCode}
 use Rattle.check_text.specs.declared.everywhere.sites.SiteCode.TheVariants.{Undefined, Arity, GroupAsType, HashForm, UnknownControl}
-use Rattle.check_text.proofs.OfEverywhere.Lists.{IsOne, same_of}
+use Rattle.all_offsets.proofs.Lemmas.{IsOne, same_of}
 use Rattle.check_text.proofs.OfSiteFaults.Telling.{IsTold}
 use Rattle.check_text.proofs.OfSiteFaults.Tokens.{bad_hash_from, unknown_from}
 use Rattle.check_text.proofs.OfSiteFaults.Used.{arity_from, arity_to, kind_from, kind_to, undefined_from}

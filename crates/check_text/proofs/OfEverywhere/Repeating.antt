@@ -1,10 +1,10 @@
 -- All offsets of what is defined twice, at one rule.
 use Rattle.std.proofs.Common.{◌≡◌, ◌⊎◌, inl, inr, ℕ, ◌+◌, ◌≤◌, Bool, not, ◌||◌, nat_eq, List, [], length, Option, Some, slice_get, sym, subst, ap, ◌∙◌}
 use Rattle.cddl_token.specs.declared.Token.{Token}
-use Rattle.check_text.specs.Everywhere.Offsets.{Gains, IsThatOf}
+use Rattle.all_offsets.specs.Offsets.{Gains, IsThatOf}
 use Rattle.check_text.specs.RuleFaults.Duplicates.{IsRepeated, is_among, told_again}
 use Rattle.lists.proofs.Lemmas.{either, one_of}
-use Rattle.check_text.proofs.OfEverywhere.Lists.{IsOne, gains_both, gains_least, same_gains}
+use Rattle.all_offsets.proofs.Lemmas.{IsOne, gains_both, gains_least, same_gains}
 use Rattle.check_text.proofs.OfRuleFaults.Equals.{IsOther}
 use Rattle.check_text.proofs.OfRuleFaults.Repeats.{AreSeen, IsBefore, IsThere, before_all, before_next, before_or_there, next_seen, none_before, none_seen, told_there}
 use Rattle.tree_nodes.specs.Syntax.Syntax as S

@@ -4,7 +4,7 @@ use Rattle.tree_nodes.specs.Syntax.Syntax as S
 use Rattle.cddl_language.specs.Faults.{HasBadRoot, HasNoRoot, no_rule, no_such, Specification, first_rule, root_of, rules}
 use Rattle.cddl_language.specs.Reading.{name_at}
 use Rattle.lists.proofs.Lemmas.{one_of}
-use Rattle.check_text.proofs.OfEverywhere.Lists.{IsOne}
+use Rattle.all_offsets.proofs.Lemmas.{IsOne}
 
 at_zero : (s : Specification) (p : ℕ) → HasNoRoot s p → p ≡ 0
 at_zero s p (no_rule e f) = f

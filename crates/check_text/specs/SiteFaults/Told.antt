@@ -6,12 +6,7 @@ use Rattle.tree_nodes.specs.declared.tree.Leaf.{Leaf}
 use Rattle.cddl_language.specs.Sites.{Site}
 use Rattle.check_sites.specs.declared.sites.site.Found.{Found}
 use Rattle.check_sites.specs.Sites.View.{view_site}
-
--- one of the list has it at this offset
-pub record IsAmong {A : Type 0} (P : A → ℕ → Type 0) (xs : List A) (at : ℕ) : Type 0 where
-  pub one : A
-  pub present : Contains xs one
-  pub told : P one at
+use Rattle.all_offsets.specs.Offsets.{IsAmong}
 
 -- it is told at a site that was found
 pub record IsToldAt (read : Leaf → Token) (rs : List S.Rule) (P : S.Rule → Site → ℕ → Type 0) (f : Found) (at : ℕ) : Type 0 where

@@ -5,13 +5,13 @@ ghost use Rattle.cddl_language.specs.Faults.{HasWrongArity, IsFaultAt, Specifica
 ghost use Rattle.cddl_language.specs.Literals.{Values};
 ghost use Rattle.check_reading.specs.Survey.Survey.{IsSurvey};
 ghost use Rattle.check_text.specs.Everywhere.Codes.{code_of};
-ghost use Rattle.check_text.specs.Everywhere.Offsets.{AreOf, AreOffsets};
+ghost use Rattle.all_offsets.specs.Offsets.{AreOf, AreOffsets};
 ghost use Rattle.tree_nodes.specs.View.{view};
 
-use crate::everywhere::offsets::{found_alone, sort};
 use crate::everywhere::rules::{RuleCode, at_rules};
 use crate::everywhere::sites::{SiteCode, at_sites};
 use crate::rule_faults::{bad_root, no_root};
+use all_offsets::{found_alone, sort};
 use cddl_token::Code;
 use check_reading::survey::Survey;
 use check_terms::Terms;

@@ -3,12 +3,12 @@
 ghost use Rattle.std.specs.Prelude.{◌≡◌, IfOk, OnOk, Some, slice_get};
 ghost use Rattle.cddl_language.specs.Reading.{parameter_tokens, rule_head, rules_of};
 ghost use Rattle.check_reading.specs.Survey.Survey.{IsSurvey};
-ghost use Rattle.check_text.specs.Everywhere.Offsets.{Gains};
+ghost use Rattle.all_offsets.specs.Offsets.{Gains};
 ghost use Rattle.check_text.specs.RuleFaults.Duplicates.{IsDuplicateAt, IsRepeated};
 ghost use Rattle.tree_nodes.specs.View.{token_of, view, view_rule};
 
-use crate::everywhere::offsets::push_found;
 use crate::rule_faults::{add_number, other_equals, start_again};
+use all_offsets::push_found;
 use check_reading::survey::Survey;
 use check_terms::Terms;
 use check_terms::laws::equal_definitions;

@@ -4,15 +4,15 @@ ghost use Rattle.std.specs.Prelude.{◌≡◌, IfOk, OnOk, Some, slice_get};
 ghost use Rattle.cddl_language.specs.Faults.{Specification};
 ghost use Rattle.cddl_language.specs.Reading.{rules_of};
 ghost use Rattle.check_reading.specs.Survey.Survey.{IsSurvey, defined_in};
-ghost use Rattle.check_text.specs.Everywhere.Offsets.{AreOf, Gains};
+ghost use Rattle.all_offsets.specs.Offsets.{AreOf, Gains};
 ghost use Rattle.check_text.specs.Everywhere.Rules.{IsToldAtRule, IsToldAtRules};
 ghost use Rattle.check_text.specs.RuleFaults.Arity.{HasOtherCount};
 ghost use Rattle.lists.specs.Least.{IsLeast};
 ghost use Rattle.tree_nodes.specs.View.{token_of, view, view_rule};
 
-use crate::everywhere::offsets::push_found;
 use crate::everywhere::repeats::push_duplicates;
 use crate::rule_faults::{arity_at, clash_at};
+use all_offsets::push_found;
 use check_reading::survey::Survey;
 use check_terms::Terms;
 use std::alloc::{AllocError, Global};

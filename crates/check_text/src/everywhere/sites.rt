@@ -5,17 +5,17 @@ ghost use Rattle.cddl_language.specs.Faults.{Specification};
 ghost use Rattle.cddl_language.specs.Reading.{rules_of};
 ghost use Rattle.check_sites.specs.Sites.View.{view_site};
 ghost use Rattle.check_reading.specs.Survey.Survey.{IsSurvey, defined_in};
-ghost use Rattle.check_text.specs.Everywhere.Offsets.{AreOf};
+ghost use Rattle.all_offsets.specs.Offsets.{AreOf};
 ghost use Rattle.check_text.specs.Everywhere.Sites.{IsToldAtSite, IsToldAtSites};
 ghost use Rattle.check_text.specs.SiteFaults.Reads.{IsRead};
 ghost use Rattle.lists.specs.Least.{IsLeast};
 ghost use Rattle.tree_nodes.specs.Syntax.Syntax.{Rule};
 ghost use Rattle.tree_nodes.specs.View.{token_of, view};
 
-use crate::everywhere::offsets::push_found;
 use crate::site_faults::{
     Mark, bad_hash_at, group_as_type_at, marks_of, undefined_at, unknown_control_at, wrong_arity_at,
 };
+use all_offsets::push_found;
 use check_reading::survey::Survey;
 use check_sites::sites::Found;
 use check_sites::sites::laws::found_sites;

@@ -47,7 +47,8 @@ pub fn wrong_opening(
     Ok(least)
 }
 
-fn wrong_opening_at(
+// The offset of the `~` at a site, if it is wrong.
+pub(crate) fn wrong_opening_at(
     terms: &Terms<'_>,
     tree: &Tree<'_>,
     survey: &Survey<'_>,

@@ -1,6 +1,6 @@
 use Rattle.std.proofs.lemmas.Result.{IfOk-weaker}
 use Rattle.cddl_language.specs.Faults.{HasBadRoot, HasNoRoot}
-use Rattle.check_text.proofs.OfEverywhere.Lists.{least_alone}
+use Rattle.all_offsets.proofs.Lemmas.{least_alone}
 use Rattle.check_text.proofs.OfEverywhere.Roots.{one_bad_root, one_no_root}
 use Rattle.check_text.proofs.everywhere.codes.found_offsets.Goals as goal
 

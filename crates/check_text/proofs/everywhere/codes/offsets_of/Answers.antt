@@ -1,4 +1,4 @@
-use Rattle.check_text.proofs.OfEverywhere.Lists.{moved_of}
+use Rattle.all_offsets.proofs.Lemmas.{moved_of}
 use Rattle.check_text.proofs.everywhere.codes.offsets_of.Goals as goal
 
 pub returns : goal.returns

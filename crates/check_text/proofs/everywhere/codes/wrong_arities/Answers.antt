@@ -1,6 +1,6 @@
 use Rattle.std.proofs.Common.{◌++◌, sym, subst, ap, ◌∙◌}
 use Rattle.cddl_language.specs.Faults.{HasWrongArity}
-use Rattle.check_text.specs.Everywhere.Offsets.{AreOf}
+use Rattle.all_offsets.specs.Offsets.{AreOf}
 use Rattle.check_text.proofs.OfEverywhere.OfRules.{wrong_arities}
 use Rattle.check_text.proofs.everywhere.codes.wrong_arities.Goals as goal
 

@@ -5,9 +5,9 @@ use Rattle.cddl_language.specs.Reading.{definition_of, name_at, parameter_tokens
 use Rattle.check_terms.specs.Definitions.{IsDefinition}
 use Rattle.lists.specs.Least.{IsLeast}
 use Rattle.tree_nodes.specs.View.{token_of, view, view_rule}
-use Rattle.check_text.specs.Everywhere.Offsets.{Gains}
+use Rattle.all_offsets.specs.Offsets.{Gains}
 use Rattle.check_text.specs.RuleFaults.Duplicates.{IsDuplicateAt, IsRepeated}
-use Rattle.check_text.proofs.OfEverywhere.Lists.{gains_both, gains_least, same_gains}
+use Rattle.all_offsets.proofs.Lemmas.{gains_both, gains_least, same_gains}
 use Rattle.check_text.proofs.OfEverywhere.Repeating.{one_other}
 use Rattle.check_text.proofs.OfRuleFaults.Clashes.{definition_there, not_both, one_definition}
 use Rattle.check_text.proofs.OfRuleFaults.Equals.{IsOther, from_duplicate, others, to_duplicate}

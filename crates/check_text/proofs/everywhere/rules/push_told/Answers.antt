@@ -4,7 +4,7 @@ use Rattle.check_reading.specs.Survey.Survey.{defined_in}
 use Rattle.tree_nodes.specs.View.{token_of, view, view_rule}
 use Rattle.check_text.specs.RuleFaults.Arity.{HasOtherCount}
 use Rattle.check_text.specs.RuleFaults.Kinds.{IsClashAt}
-use Rattle.check_text.proofs.OfEverywhere.Lists.{gains_least}
+use Rattle.all_offsets.proofs.Lemmas.{gains_least}
 use Rattle.check_text.proofs.OfEverywhere.OfRules.{one_clash, one_count}
 use Rattle.check_text.proofs.everywhere.rules.push_told.Goals as goal
 

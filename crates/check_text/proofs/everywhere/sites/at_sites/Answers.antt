@@ -6,7 +6,7 @@ use Rattle.tree_nodes.specs.View.{token_of, view}
 use Rattle.check_text.specs.Everywhere.Sites.{IsToldAtSite}
 use Rattle.check_text.specs.SiteFaults.Marks.{AreMarks}
 use Rattle.check_text.proofs.OfEverywhere.Gathering.{begins, finished, steps}
-use Rattle.check_text.proofs.OfEverywhere.Lists.{gains_least}
+use Rattle.all_offsets.proofs.Lemmas.{gains_least}
 use Rattle.check_text.proofs.OfEverywhere.OfSites.{in_text, one_at_site}
 use Rattle.check_text.proofs.everywhere.sites.at_sites.Goals as goal
 

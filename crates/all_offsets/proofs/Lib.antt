@@ -1,0 +1,3 @@
+mod Gathering
+pub mod Lemmas
+mod Lists
