@@ -50,6 +50,7 @@ COMMANDS = [
     ["validate", "--explain", "r = [tstr / b, int]\nb = { c: 1..5, d: #6.1(tstr) }\n", "\x82ax\x00\x82\x00\x00\n"],
     ["validate", "--explain", "r = { b: [int, c], * tstr => c }\nc = bytes .cbor tstr\n", "\xa2ab\x82\x01A`axA\n"],
     ["rewrite", "--explain", "r = [int, tstr]\n", "\x82\x01ax\x81\n"],
+    ["check", "--explain", "a = [~b, 0..tstr, {int, * (c: int, d: int)}, a .eq uint]\nb = int\n"],
     ["check", "r = [a]\na = [g]\ng = (? int, g)\n"],
     ["check", "r = [a]\na = [5..tstr, 3*2 int]\n"],
     ["check", "r = (a: 1, b: [c])\nc = (d //\n"],
