@@ -192,7 +192,7 @@ def checks_of(header):
         "a refusal that is explained": explained_of("a = int\n", "b", "it.cddl") == (
             "refused: C5 NoRoot at byte 0\nit.cddl:1:1: NoRoot\na = int\n^\n`b`, which --root asks for, is no rule and none of the prelude\n"),
         "a refusal of an empty text that is explained": explained_of(b"", None, "\x1b") == (
-            "refused: C5 NoRoot at byte 0\n\\u001b:1:1: NoRoot\n\n^\nthere is no rule and no --root, or --root names nothing\n"),
+            "refused: C5 NoRoot at byte 0\n\\u001b:1:1: NoRoot\n\n^\nthe text has no rule that could be the root, and --root names none\n"),
         "a word that is explained": explain("Mismatch").startswith("mismatch: the item does not match the root") and explain("c3").endswith("\n"),
         "words that name nothing": all(is_value_error(lambda: explain(it)) for it in ("", "C19", "C3\n", "\udc80")),
         "a refusal for its root": refusal_of("a = int\n", "b")[0] == "C5",

@@ -1,11 +1,14 @@
 -- One token more of those that may begin rules.
-use Rattle.std.proofs.Common.{◌≡◌, ℕ, ◌+◌, ◌-◌, ◌<◌, Bor, refl, take, append_assoc, length-drop, arith, ◌&&◌, nat_eq, List, [], ◌∷◌, ◌++◌, Bool, true, false, get_or, drop, length, ap, sym, ◌∙◌, cond}
+use Rattle.std.proofs.Common.{◌≡◌, ℕ, ◌+◌, ◌-◌, ◌<◌, Bor, refl, take, append_assoc, length-drop, arith, ◌&&◌, nat_eq, List, [], ◌∷◌, ◌++◌, Bool, true, false, get_or, drop, length, ap, sym, ◌∙◌, cond, Some, ◌==◌}
 use Rattle.std.proofs.lemmas.List.{at_drop_more, map-append, take_all}
 use Rattle.std.specs.Cmp.Lexicographic.{pointwise}
 use Rattle.cddl_token.specs.declared.Token.{Token}
 use Rattle.near_words.specs.Near.{texts}
+use Rattle.tree_nodes.specs.Syntax.Answers.{opened_after}
+use Rattle.cddl_explain.specs.Cases.{sign_of_rule}
 use Rattle.cddl_explain.specs.Origins.{first_rule}
-use Rattle.cddl_explain.specs.Rules.{assigns, begins_by, begins_rule, closes, closes_by, head_of, in_list_of, name_of_token, rule_names}
+use Rattle.cddl_explain.specs.Roots.{ends_as_key, is_arrow}
+use Rattle.cddl_explain.specs.Rules.{assigns, begins_by, begins_rule, closes, closes_by, head_of, in_list_of, is_assignment, name_of_token, rule_names}
 use Rattle.cddl_explain.specs.declared.rules.Head.{Head}
 use Rattle.cddl_explain.specs.declared.rules.InList.{InList}
 
@@ -58,3 +61,32 @@ first_other_name name found ts k d lt begins is other = first_at name ts k d tru
 pub first_here : (name found : List ℕ) (ts : List Token) (k : ℕ) (d : Token) → k < length ts → begins_rule (drop k ts) ≡ true → found ≡ name_of_token (get_or ts k d).text.now →
     pointwise nat_eq found name ≡ true → first_rule name (drop k ts) ≡ drop k ts
 first_here name found ts k d lt begins is same = first_at name ts k d true true lt begins (ap (λ x. pointwise nat_eq x name) (sym is) ∙ same)
+
+pub sign_at : (ts : List Token) (k : ℕ) (d : Token) (is_sign : Bool) → k < length ts → is_assignment (get_or ts k d).kind ≡ is_sign → sign_of_rule (drop k ts) ≡ cond is_sign (Some (get_or ts k d).kind) (sign_of_rule (drop (k + 1) ts))
+sign_at ts k d is_sign lt e = at_drop_more sign_of_rule ts k d lt ∙ ap (λ b. cond b (Some (get_or ts k d).kind) (sign_of_rule (drop (k + 1) ts))) e
+
+-- what the next token tells of a bracket that may stand in a key: an arrow outside of brackets, or else the next rule
+ends_at : (depth now : ℕ) (ts : List Token) (k : ℕ) (d : Token) (key rule : Bool) → k < length ts → key ≡ ((depth == 0) && is_arrow (get_or ts k d).kind) → rule ≡ ((depth == 0) && begins_rule (drop k ts)) → now ≡ opened_after (get_or ts k d).kind depth →
+    ends_as_key depth (drop k ts) ≡ cond key true (cond rule false (ends_as_key now (drop (k + 1) ts)))
+ends_at depth now ts k d key rule lt e1 e2 e3 =
+    let rest = drop (k + 1) ts in
+    let kind = (get_or ts k d).kind in
+    let later = ends_as_key (opened_after kind depth) rest in
+    at_drop_more (ends_as_key depth) ts k d lt ∙
+    (ap (λ b. cond b true (cond ((depth == 0) && begins_rule (get_or ts k d ∷ rest)) false later)) (sym e1) ∙
+    (ap (λ b. cond key true (cond ((depth == 0) && b) false later)) (sym (at_drop_more begins_rule ts k d lt)) ∙
+    (ap (λ b. cond key true (cond b false later)) (sym e2) ∙
+    ap (λ n. cond key true (cond rule false (ends_as_key n rest))) (sym e3))))
+
+pub ends_key : (depth : ℕ) (ts : List Token) (k : ℕ) (d : Token) (key : Bool) → k < length ts → key ≡ ((depth == 0) && is_arrow (get_or ts k d).kind) → key ≡ true → ends_as_key depth (drop k ts) ≡ true
+ends_key depth ts k d key lt e1 is = ends_at depth (opened_after (get_or ts k d).kind depth) ts k d key ((depth == 0) && begins_rule (drop k ts)) lt e1 refl refl ∙
+    ap (λ b. cond b true (cond ((depth == 0) && begins_rule (drop k ts)) false (ends_as_key (opened_after (get_or ts k d).kind depth) (drop (k + 1) ts)))) is
+
+pub ends_rule : (depth : ℕ) (ts : List Token) (k : ℕ) (d : Token) (key rule : Bool) → k < length ts → key ≡ ((depth == 0) && is_arrow (get_or ts k d).kind) → rule ≡ ((depth == 0) && begins_rule (drop k ts)) → key ≡ false → rule ≡ true → ends_as_key depth (drop k ts) ≡ false
+ends_rule depth ts k d key rule lt e1 e2 not_key is = ends_at depth (opened_after (get_or ts k d).kind depth) ts k d key rule lt e1 e2 refl ∙
+    (ap (λ b. cond b true (cond rule false (ends_as_key (opened_after (get_or ts k d).kind depth) (drop (k + 1) ts)))) not_key ∙ ap (λ b. cond b false (ends_as_key (opened_after (get_or ts k d).kind depth) (drop (k + 1) ts))) is)
+
+pub ends_later : (depth now : ℕ) (ts : List Token) (k : ℕ) (d : Token) (key rule : Bool) → k < length ts → key ≡ ((depth == 0) && is_arrow (get_or ts k d).kind) → rule ≡ ((depth == 0) && begins_rule (drop k ts)) → now ≡ opened_after (get_or ts k d).kind depth → key ≡ false → rule ≡ false →
+    ends_as_key depth (drop k ts) ≡ ends_as_key now (drop (k + 1) ts)
+ends_later depth now ts k d key rule lt e1 e2 e3 not_key other = ends_at depth now ts k d key rule lt e1 e2 e3 ∙
+    (ap (λ b. cond b true (cond rule false (ends_as_key now (drop (k + 1) ts)))) not_key ∙ ap (λ b. cond b false (ends_as_key now (drop (k + 1) ts))) other)

@@ -1,12 +1,13 @@
 -- One step more of the loops over words and phrases.
-use Rattle.std.proofs.Common.{◌≡◌, Bor, ℕ, ◌+◌, ◌<◌, ◌==◌, ◌&&◌, ◌||◌, nat_eq, Bool, false, List, [], ◌∷◌, ◌++◌, append_assoc, Option, Some, get_or, drop, length, map, ap, sym, ◌∙◌, cond, arith}
+use Rattle.std.proofs.Common.{◌≡◌, Bor, ℕ, ◌+◌, ◌<◌, ◌==◌, ◌&&◌, ◌||◌, nat_eq, Bool, false, List, [], ◌∷◌, ◌++◌, append_assoc, Some, get_or, drop, length, ap, sym, ◌∙◌, cond, arith}
 use Rattle.std.proofs.lemmas.List.{at_drop_more, map-append}
 use Rattle.std.specs.List.{ends_with}
 use Rattle.cddl_token.specs.declared.Kind.{Kind}
 use Rattle.cddl_token.specs.declared.Token.{Token}
 use Rattle.near_words.specs.Near.{texts}
 use Rattle.cddl_explain.specs.Expected.{belongs, parted, parting, phrase_of, single_phrases}
-use Rattle.cddl_explain.specs.Meant.{begins_container, begins_with_dot, ending, first_container, has_dots}
+use Rattle.cddl_explain.specs.Meant.{begins_with_dot, ending, has_dots}
+use Rattle.cddl_explain.specs.Roots.{begins_container, first_container}
 use Rattle.cddl_explain.specs.declared.phrases.Collection.{Collection}
 
 pub dots_at : (bs : List ℕ) (k d : ℕ) (here next : Bool) → k < length bs → (get_or bs k d == 46) ≡ here → begins_with_dot (drop (k + 1) bs) ≡ next →

@@ -1,5 +1,7 @@
 pub mod Arity
+pub mod Cases
 pub mod Causes
+pub mod Controls
 pub mod Examples
 pub mod Expected
 pub mod Further
@@ -12,6 +14,7 @@ pub mod Parts
 pub mod Places
 pub mod Predicates
 pub mod Refusals
+pub mod Roots
 pub mod Rules
 pub mod Sentences
 pub mod Spots

@@ -1,9 +1,11 @@
 -- What people mostly mean by what is refused.
 use Rattle.std.specs.Prelude.{ℕ, ◌==◌, ◌&&◌, ◌||◌, not, nat_eq, Bool, true, false, List, [], ◌∷◌, ◌++◌, codes, Option, Some, None, if◌then◌else◌}
+use Rattle.std.specs.Cmp.Lexicographic.{pointwise}
 use Rattle.std.specs.List.{ends_with, starts_with}
 use Rattle.cddl_token.specs.declared.Kind.{Kind}
-use Rattle.cddl_token.specs.declared.Kind.TheVariants.{Name, Control, Number, Text, Bytes, Assign, BracketOpen, BraceOpen}
+use Rattle.cddl_token.specs.declared.Kind.TheVariants.{Name, Control, Number, Text, Bytes, Hash, DoubleSlash}
 use Rattle.cddl_token.specs.declared.Token.{Token}
+use Rattle.cddl_explain.specs.Cases.{is_ampersand, is_occur}
 use Rattle.cddl_explain.specs.Expected.{begins_type}
 use Rattle.cddl_explain.specs.Known.{control_names}
 use Rattle.cddl_explain.specs.Rules.{assigns, begins_rule}
@@ -31,6 +33,14 @@ is_key Text = true
 is_key Bytes = true
 is_key _ = false
 
+abbrev pub is_number : Kind → Bool
+is_number Number = true
+is_number _ = false
+
+abbrev pub is_plain : Kind → Bool
+is_plain Name = true
+is_plain _ = false
+
 -- a type comes first, and no rule
 abbrev pub goes_on : List Token → Bool
 goes_on [] = false
@@ -40,6 +50,19 @@ goes_on (t ∷ ts) = begins_type t.kind && not (begins_rule (t ∷ ts))
 abbrev pub key_words : List Token → List ℕ
 key_words [] = []
 key_words (t ∷ ts) = if is_key t.kind && goes_on ts then text.KEY.now else []
+
+-- what is said of what could be a key: a name may be a type
+abbrev pub named_key_words : List Token → List ℕ
+named_key_words [] = []
+named_key_words (t ∷ ts) =
+    if is_plain t.kind && goes_on ts then codes "; if `" ++ (t.text.now ++ codes "` is a key, write `:` behind it, or `=>` where it is a type")
+    else if is_number t.kind && goes_on ts then codes "; if `" ++ (t.text.now ++ codes "` is a key, write `:` behind it")
+    else key_words (t ∷ ts)
+
+-- what is said of an entry of a map without a key: of what stands behind its occurrence
+abbrev pub entry_words : List Token → List ℕ
+entry_words [] = []
+entry_words (t ∷ ts) = if is_occur t.kind then named_key_words ts else named_key_words (t ∷ ts)
 
 abbrev pub control_or : Option (List ℕ) → List ℕ → List ℕ → List ℕ
 control_or None name other = other
@@ -58,10 +81,6 @@ name_words name here = one_name_or name (key_words here)
 abbrev pub is_control : Kind → Bool
 is_control Control = true
 is_control _ = false
-
-abbrev pub is_plain : Kind → Bool
-is_plain Name = true
-is_plain _ = false
 
 abbrev pub plain_words : List ℕ → Bool → List ℕ
 plain_words name true = codes "; `" ++ (name ++ codes "` is read as part of the rule before it")
@@ -89,25 +108,27 @@ abbrev pub tag_words : List Token → List ℕ
 tag_words [] = []
 tag_words (t ∷ ts) = if is_tag t.text.now then codes "; a tag has behind it what it holds, as in `" ++ (t.text.now ++ codes "(any)`") else []
 
-abbrev pub is_equals : Kind → Bool
-is_equals Assign = true
-is_equals _ = false
+-- what is said of a token that cannot stand where it does, and with which a comment begins in other languages
+abbrev pub comment_by : Kind → List ℕ
+comment_by Hash = text.COMMENT.now
+comment_by DoubleSlash = text.SLASHES.now
+comment_by _ = []
 
-abbrev pub is_container : Kind → Bool
-is_container BracketOpen = true
-is_container BraceOpen = true
-is_container _ = false
+abbrev pub comment_words : List Token → List ℕ
+comment_words [] = []
+comment_words (t ∷ ts) = comment_by t.kind
 
--- a rule without parameters begins, by `=`, whose first token opens an array or a map; and it does not begin at the offset
-abbrev pub begins_container : ℕ → List Token → Bool
-begins_container here (t ∷ u ∷ v ∷ ts) = not (t.start == here) && is_plain t.kind && is_equals u.kind && is_container v.kind
-begins_container here _ = false
+abbrev pub is_word : List ℕ → List ℕ → Bool
+is_word a b = pointwise nat_eq a b
 
--- the name of the first such rule
-abbrev pub first_container : ℕ → List Token → Option (List ℕ)
-first_container here [] = None
-first_container here (t ∷ ts) = if begins_container here (t ∷ ts) then Some t.text.now else first_container here ts
+abbrev pub is_quote : List ℕ → Bool
+is_quote character = is_word character text.LEFT_QUOTE.now || is_word character text.RIGHT_QUOTE.now
 
-abbrev pub root_words : Option (List ℕ) → List ℕ
-root_words None = text.ANOTHER_ROOT.now
-root_words (Some name) = codes "; did you mean --root " ++ (name ++ codes "?")
+-- what is said of a character that begins no token
+abbrev pub character_words : List ℕ → List ℕ
+character_words character = if is_word character (codes "|") then text.BAR.now else if is_quote character then text.QUOTES.now else []
+
+-- what is said of a name of the wrong kind, by the token before it: of a group how it is made a type
+abbrev pub round_words : Option Token → List ℕ
+round_words None = text.ROUND.now
+round_words (Some t) = if is_ampersand t.kind then [] else text.ROUND.now

@@ -1,5 +1,5 @@
 -- What is told of a refusal to one who wants more than its line.
-use Rattle.std.specs.Prelude.{◌≡◌, ℕ, nat_lt, List, ◌++◌, codes, decimal, slice_range, take, Option, Some, if◌then◌else◌}
+use Rattle.std.specs.Prelude.{◌≡◌, ℕ, nat_lt, List, ◌++◌, codes, decimal, slice_range, take, Option, Some, None, if◌then◌else◌}
 use Rattle.cddl_token.specs.Messages.{refusal_text}
 use Rattle.cddl_token.specs.declared.Code.{Code}
 use Rattle.cddl_token.specs.declared.Code.TheVariants.{NoRoot}
@@ -14,10 +14,12 @@ use Rattle.cddl_explain.specs.Parts.{AreTokens, IsPart}
 use Rattle.cddl_explain.specs.Predicates.{predicate_at}
 use Rattle.cddl_explain.specs.Sentences.{sentence_of}
 use Rattle.cddl_explain.specs.declared.parts.Part.{Part}
+use Rattle.cddl_explain.specs.declared.refusals.TheConstants as constant
 
 -- what is wrong where no part of the text is: as the code says it, or with the root that was asked for
 abbrev pub of_nothing : Code → Option (List ℕ) → List ℕ
 of_nothing NoRoot (Some name) = codes "`" ++ (shown name ++ codes "`, which --root asks for, is no rule and none of the prelude")
+of_nothing NoRoot None = constant.NO_RULE.now
 of_nothing code root = sentence_of code
 
 -- what is wrong: with the token or the end of the text; or as the code alone says it, where there is neither

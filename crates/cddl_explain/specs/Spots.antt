@@ -1,5 +1,5 @@
 -- The tokens before a place, and those from there on.
-use Rattle.std.specs.Prelude.{ℕ, suc, nat_lt, List, [], ◌∷◌, drop, take, if◌then◌else◌}
+use Rattle.std.specs.Prelude.{ℕ, suc, ◌-◌, nat_lt, List, [], ◌∷◌, Option, drop, length, slice_get, take, if◌then◌else◌}
 use Rattle.cddl_token.specs.declared.Token.{Token}
 
 -- how many tokens begin before the offset, up to the first that does not
@@ -13,3 +13,6 @@ before at ts = take (passed at ts) ts
 
 abbrev pub behind : ℕ → List Token → List Token
 behind at ts = drop (passed at ts) ts
+
+abbrev pub last_of : List Token → Option Token
+last_of ts = slice_get ts (length ts - 1)

@@ -165,7 +165,7 @@ fn parted(tokens: &[Token<'_>]) -> usize
     'token: for k in 0..tokens.len() {
         let kind = tokens[k].kind;
         count += parts(kind, depth);
-        depth = opened_after(kind, depth);
+        depth = count_after(kind, depth);
         if depth == 0 {
             return count;
         }
@@ -189,10 +189,10 @@ fn is_comma(kind: Kind) -> bool
 }
 
 // How many are open after a token, of so many before it.
-fn opened_after(kind: Kind, depth: usize) -> usize
-    requires { depth < usize.MAX }
-    ensures after { result ≡ opened_after kind depth }
-    ensures few { result ≤ depth + 1 }
+pub(crate) fn count_after(kind: Kind, count: usize) -> usize
+    requires { count < usize.MAX }
+    ensures after { result ≡ opened_after kind count }
+    ensures few { result ≤ count + 1 }
 {
     match kind {
         Kind::ParenOpen
@@ -201,10 +201,10 @@ fn opened_after(kind: Kind, depth: usize) -> usize
         | Kind::NameOpen
         | Kind::TagOpen
         | Kind::TagHeadOpen
-        | Kind::SimpleHeadOpen => depth + 1,
+        | Kind::SimpleHeadOpen => count + 1,
         Kind::ParenClose | Kind::BracketClose | Kind::BraceClose | Kind::AngleClose => {
-            depth.saturating_sub(1)
+            count.saturating_sub(1)
         }
-        _ => depth,
+        _ => count,
     }
 }

@@ -3,18 +3,21 @@
 ghost use Rattle.std.specs.Prelude.{◌≡◌, ◌<◌, length, option_map, string_bytes, All, IfOk};
 ghost use Rattle.cddl_token.specs.declared.Token.{Token as AToken};
 ghost use Rattle.near_words.specs.Near.{texts};
-ghost use Rattle.cddl_explain.specs.Hints.{defined_names, hint_of, part_text, IsChoiceHint, IsHint, IsHintAmong, IsNameHint, IsTokenHint};
+ghost use Rattle.cddl_explain.specs.Hints.{defined_names, hint_of, part_text, IsChoiceHint, IsHint, IsHintAmong, IsKindHint, IsNameHint, IsTokenHint};
 ghost use Rattle.cddl_explain.specs.Known.{control_names as known_controls};
+ghost use Rattle.cddl_explain.specs.Meant.{character_words};
 ghost use Rattle.cddl_explain.specs.Origins.{IsOrigin};
 ghost use Rattle.cddl_explain.specs.Parts.{IsWithin};
 
 use crate::expected::expectation;
 use crate::known::{control_names, prelude_names};
 use crate::meant::{
-    FLOATS, choice_words, key_words, name_words, reading_words, root_words, tag_words,
+    COMES_BACK, FLOATS, INSTANCES, character_words, choice_words, comment_words, entry_words,
+    name_words, reading_words, round_words, tag_words,
 };
 use crate::origins::origin_hint;
 use crate::parts::Part;
+use crate::roots::root_words;
 use crate::rules::rule_names;
 use crate::spots::passed;
 use cddl_token::{Code, Token};
@@ -39,23 +42,34 @@ pub(crate) fn hint(
 {
     let (before, behind) = tokens.split_at(passed(tokens, part.from));
     match (code, root) {
+        (Code::BadCharacter, _) => character_hint(alloc, text, part),
         (Code::FloatLiteral, _) => format!(in alloc; "{FLOATS}"),
         (Code::Unexpected, _) => token_hint(alloc, before, part.from, behind),
         (Code::Undefined, _) => name_hint(alloc, text, part, behind, tokens),
         (Code::UnknownControl, _) => control_hint(alloc, text, part),
         (Code::NoRoot, Some(name)) => defined_hint(alloc, name, "", tokens),
-        (Code::BadRoot, _) => root_words(alloc, tokens, part.from),
+        (Code::BadRoot, _) => root_words(alloc, tokens, part.from, behind),
         (Code::HashForm, _) => tag_words(alloc, behind),
-        (Code::NoKey, _) => key_words(alloc, behind),
+        (Code::NoKey, _) => entry_words(alloc, behind),
         (Code::Duplicate, _) => choice_hint(alloc, text, part, behind, tokens),
-        (Code::KindClash | Code::Arity | Code::GroupAsType, _) => {
-            rule_hint(alloc, text, part, tokens)
-        }
+        (Code::KindClash | Code::Arity, _) => rule_hint(alloc, text, part, tokens),
+        (Code::GroupAsType, _) => kind_hint(alloc, text, part, before, tokens),
+        (Code::TooManyInstances, _) => format!(in alloc; "{INSTANCES}"),
+        (Code::Recursion, _) => format!(in alloc; "{COMES_BACK}"),
         _ => Ok(String::new(alloc)),
     }
 }
 
-// Which tokens may come in place of the first of those behind a place, and how the one before it is read.
+fn character_hint(alloc: Global, text: &[u8], part: Part) -> Result<String, AllocError>
+    requires { IsWithin (length text.now) part }
+    ensures { IfOk result (λ told. string_bytes told ≡ character_words (part_text text.now part)) }
+{
+    let character = String::from_utf8_lossy(alloc, &text[part.from..part.to])?;
+    let words = character_words(character.as_str());
+    format!(in alloc; "{words}")
+}
+
+// Which tokens may come in place of the first of those behind a place, how the one before it is read, and how a comment begins.
 fn token_hint(
     alloc: Global,
     before: &[Token<'_>],
@@ -67,7 +81,23 @@ fn token_hint(
 {
     let expected = expectation(alloc, before, at)?;
     let reading = reading_words(alloc, before.last(), behind)?;
-    format!(in alloc; "{expected}{reading}")
+    let comment = comment_words(behind);
+    format!(in alloc; "{expected}{reading}{comment}")
+}
+
+fn kind_hint(
+    alloc: Global,
+    text: &[u8],
+    part: Part,
+    before: &[Token<'_>],
+    tokens: &[Token<'_>],
+) -> Result<String, AllocError>
+    requires { IsWithin (length text.now) part }
+    ensures { IfOk result (λ told. IsKindHint text.now part before.now tokens.now (string_bytes told)) }
+{
+    let origin = rule_hint(alloc, text, part, tokens)?;
+    let round = round_words(before.last());
+    format!(in alloc; "{origin}{round}")
 }
 
 fn choice_hint(

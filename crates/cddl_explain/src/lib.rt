@@ -2,7 +2,9 @@
 #![tactic(auto)]
 
 mod arity;
+mod cases;
 mod causes;
+mod controls;
 mod examples;
 mod expected;
 mod further;
@@ -17,6 +19,7 @@ mod phrases;
 mod places;
 mod predicates;
 mod refusals;
+mod roots;
 mod rules;
 mod sentences;
 mod spots;

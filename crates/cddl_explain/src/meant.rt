@@ -1,10 +1,11 @@
 //! What people mostly mean by what is refused: words behind what is wrong, or none.
 
-ghost use Rattle.std.specs.Prelude.{◌≡◌, length, drop, ◌<◌, option_map, option_copied, string_bytes, IfOk};
+ghost use Rattle.std.specs.Prelude.{◌≡◌, option_map, option_copied, string_bytes, IfOk};
 ghost use Rattle.near_words.specs.Near.{texts};
 ghost use Rattle.cddl_explain.specs.Expected.{begins_type};
-ghost use Rattle.cddl_explain.specs.Meant.{begins_container, begins_with_dot, choice_words, ending, first_container, goes_on, has_dots, is_container, is_control, is_equals, is_key, is_plain, is_tag, key_words, name_words, one_name_or, reading_words, root_words, tag_words};
+ghost use Rattle.cddl_explain.specs.Meant.{begins_with_dot, character_words, choice_words, comment_by, comment_words, ending, entry_words, goes_on, has_dots, is_control, is_key, is_number, is_plain, is_quote, is_tag, is_word, key_words, name_words, named_key_words, one_name_or, reading_words, round_words, tag_words};
 
+use crate::cases::{is_ampersand, is_occur};
 use crate::known::control_names;
 use crate::phrases::begins_type;
 use crate::rules::{assigns, begins_rule};
@@ -17,7 +18,25 @@ pub(crate) const KEY: &str = "; if it is a key, write `:` behind it";
 
 pub(crate) const CHOICE: &str = "; `/=` adds a choice to a type, and `//=` one to a group";
 
-pub(crate) const ANOTHER_ROOT: &str = "; --root names another root";
+pub(crate) const ROUND: &str = "; `[ ]` round it makes an array, and `{ }` a map";
+
+pub(crate) const COMES_BACK: &str =
+    "; a type may come back in an array, a map or a tag, and a group behind an entry that takes an item";
+
+pub(crate) const INSTANCES: &str =
+    "; a name that comes back to itself with other arguments each time has no end of instances";
+
+pub(crate) const COMMENT: &str = "; a comment begins with `;`";
+
+pub(crate) const SLASHES: &str = "; types have `/` between them, and a comment begins with `;`";
+
+pub(crate) const BAR: &str = "; types have `/` between them";
+
+pub(crate) const QUOTES: &str = "; a text stands between two `\"`";
+
+pub(crate) const LEFT_QUOTE: &str = "\u{201c}";
+
+pub(crate) const RIGHT_QUOTE: &str = "\u{201d}";
 
 // Of a name that is not defined, with which the tokens `here` begin.
 pub(crate) fn name_words(
@@ -91,6 +110,41 @@ pub(crate) fn key_words(alloc: Global, here: &[Token<'_>]) -> Result<String, All
     }
 }
 
+// Of an entry of a map without a key, behind its occurrence.
+pub(crate) fn entry_words(alloc: Global, here: &[Token<'_>]) -> Result<String, AllocError>
+    ensures { IfOk result (λ told. string_bytes told ≡ entry_words here.now) }
+{
+    match here.split_first() {
+        Some((first, rest)) if is_occur(first.kind) => named_key_words(alloc, rest),
+        _ => named_key_words(alloc, here),
+    }
+}
+
+// Of what could be a key: a name may be a type.
+fn named_key_words(alloc: Global, here: &[Token<'_>]) -> Result<String, AllocError>
+    ensures { IfOk result (λ told. string_bytes told ≡ named_key_words here.now) }
+{
+    match here.split_first() {
+        Some((first, rest)) if is_plain(first.kind) && goes_on(rest) => {
+            let name = first.text;
+            format!(in alloc;
+                "; if `{name}` is a key, write `:` behind it, or `=>` where it is a type"
+            )
+        }
+        Some((first, rest)) if is_number(first.kind) && goes_on(rest) => {
+            let number = first.text;
+            format!(in alloc; "; if `{number}` is a key, write `:` behind it")
+        }
+        _ => key_words(alloc, here),
+    }
+}
+
+fn is_number(kind: Kind) -> bool
+    ensures { result ≡ is_number kind }
+{
+    matches!(kind, Kind::Number)
+}
+
 fn is_key(kind: Kind) -> bool
     ensures { result ≡ is_key kind }
 {
@@ -131,16 +185,72 @@ pub(crate) fn reading_words(
     one_name_or(alloc, text, String::new(alloc))
 }
 
-fn is_control(kind: Kind) -> bool
+pub(crate) fn is_control(kind: Kind) -> bool
     ensures { result ≡ is_control kind }
 {
     matches!(kind, Kind::Control)
 }
 
-fn is_plain(kind: Kind) -> bool
+pub(crate) fn is_plain(kind: Kind) -> bool
     ensures { result ≡ is_plain kind }
 {
     matches!(kind, Kind::Name)
+}
+
+// Of a token that cannot stand where it does, and with which a comment begins elsewhere.
+pub(crate) fn comment_words(here: &[Token<'_>]) -> &'static str
+    ensures { result.now ≡ comment_words here.now }
+{
+    match here.first() {
+        Some(first) => comment_by(first.kind),
+        None => "",
+    }
+}
+
+fn comment_by(kind: Kind) -> &'static str
+    ensures { result.now ≡ comment_by kind }
+{
+    match kind {
+        Kind::Hash => COMMENT,
+        Kind::DoubleSlash => SLASHES,
+        _ => "",
+    }
+}
+
+// Of a character that begins no token.
+pub(crate) fn character_words(character: &str) -> &'static str
+    ensures { result.now ≡ character_words character.now }
+{
+    if is_word(character, "|") {
+        BAR
+    } else if is_quote(character) {
+        QUOTES
+    } else {
+        ""
+    }
+}
+
+fn is_quote(character: &str) -> bool
+    ensures { result ≡ is_quote character.now }
+{
+    is_word(character, LEFT_QUOTE) || is_word(character, RIGHT_QUOTE)
+}
+
+// Whether two texts are the same.
+pub(crate) fn is_word(a: &str, b: &str) -> bool
+    ensures { result ≡ is_word a.now b.now }
+{
+    *a == *b
+}
+
+// Of a name of the wrong kind, by the token before it: how a group is made a type.
+pub(crate) fn round_words(before: Option<&Token<'_>>) -> &'static str
+    ensures { result.now ≡ round_words (option_copied before.entry) }
+{
+    match before {
+        Some(token) if is_ampersand(token.kind) => "",
+        _ => ROUND,
+    }
 }
 
 // Of a second definition.
@@ -172,57 +282,4 @@ fn is_tag(text: &str) -> bool
     ensures { result ≡ is_tag text.now }
 {
     text.as_bytes().starts_with(b"#6")
-}
-
-// Of a root that is none, with the name of a rule that could be meant.
-pub(crate) fn root_words(
-    alloc: Global,
-    tokens: &[Token<'_>],
-    here: usize,
-) -> Result<String, AllocError>
-    ensures { IfOk result (λ told. string_bytes told ≡ root_words (first_container here tokens.now)) }
-{
-    match first_container(tokens, here) {
-        Some(name) => format!(in alloc; "; did you mean --root {name}?"),
-        None => format!(in alloc; "{ANOTHER_ROOT}"),
-    }
-}
-
-// The name of the first rule that is an array or a map and does not begin here.
-fn first_container<'s>(tokens: &[Token<'s>], here: usize) -> Option<&'s str>
-    ensures { option_map (λ n. n.now) result ≡ first_container here tokens.now }
-{
-    'rule: for k in 0..tokens.len() {
-        if begins_container(here, &tokens[k..]) {
-            return Some(tokens[k].text);
-        }
-    }
-    None
-}
-
-// Whether a rule begins that is an array or a map, and not here.
-fn begins_container(here: usize, tokens: &[Token<'_>]) -> bool
-    ensures { result ≡ begins_container here tokens.now }
-{
-    match tokens {
-        [name, sign, body, ..] => {
-            name.start != here
-                && is_plain(name.kind)
-                && is_equals(sign.kind)
-                && is_container(body.kind)
-        }
-        _ => false,
-    }
-}
-
-fn is_equals(kind: Kind) -> bool
-    ensures { result ≡ is_equals kind }
-{
-    matches!(kind, Kind::Assign)
-}
-
-fn is_container(kind: Kind) -> bool
-    ensures { result ≡ is_container kind }
-{
-    matches!(kind, Kind::BracketOpen | Kind::BraceOpen)
 }

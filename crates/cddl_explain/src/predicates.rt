@@ -1,9 +1,11 @@
 //! What is wrong with the token that a refusal names, by the code.
 
-ghost use Rattle.std.specs.Prelude.{◌≡◌, string_bytes, IfOk};
+ghost use Rattle.std.specs.Prelude.{◌≡◌, option_copied, string_bytes, IfOk};
 ghost use Rattle.cddl_explain.specs.Predicates.{duplicate_of, predicate_at, predicate_of};
 
 use crate::arity::arity_of_name;
+use crate::cases::{clash_case, hash_case, kind_case, opening_case, range_case, root_case};
+use crate::controls::{controller_case, literal_case};
 use crate::rules::begins_rule;
 use crate::spots::passed;
 use cddl_token::{Code, Token};
@@ -36,40 +38,22 @@ pub(crate) const DUPLICATE: &str = "is defined by = before, as something else";
 
 pub(crate) const PARAMETER_TWICE: &str = "stands twice in this list of parameters";
 
-pub(crate) const KIND_CLASH: &str =
-    "is a type by another rule, and a group by this one, or the other way round";
-
 pub(crate) const UNDEFINED: &str = "is no rule, no parameter, none of the prelude and no socket";
 
 pub(crate) const ARITY: &str = "has a wrong number of arguments or parameters";
 
 pub(crate) const NO_ROOT: &str = "is no root";
 
-pub(crate) const BAD_ROOT: &str = "is the root, and it is a group or has parameters";
-
-pub(crate) const GROUP_AS_TYPE: &str =
-    "is a group, and a type has to stand here; or it is a type after &";
-
-pub(crate) const HASH_FORM: &str =
-    "means nothing: it is #8 or #9, or #d.n with another d than 7, or #7.n with 24, 28 to 31, or over 255";
-
 pub(crate) const UNKNOWN_CONTROL: &str = "is no control that is known here";
 
 pub(crate) const TOO_MANY_INSTANCES: &str = "has more than 4,096 instances";
 
-pub(crate) const NOT_UNWRAPPABLE: &str =
-    "opens nothing, or ~ opens a group where a type has to stand; or & cannot choose: an entry may occur other than once, or a group comes back to itself";
-
 pub(crate) const RECURSION: &str = "comes back to itself before an item is taken or gone into";
 
 pub(crate) const NOT_LITERAL: &str =
-    "begins no literal that the control can take: .plus takes whole numbers, .cat and .det take strings; or the sum is out of range, or the join has more than 65,536 bytes";
+    "begins no literal that may stand on the left: .plus takes whole numbers, .cat and .det take strings";
 
-pub(crate) const BAD_RANGE: &str =
-    "is no whole number, as the ends of a range are; or it is an occurrence whose minimum is over its maximum";
-
-pub(crate) const BAD_CONTROLLER: &str =
-    "begins what the control cannot take: .lt, .le, .gt and .ge take whole numbers, .size and .bits take unsigned numbers and ranges of them; or the joined text is not UTF-8";
+pub(crate) const BAD_CONTROLLER: &str = "begins what the control cannot take";
 
 pub(crate) const NO_KEY: &str =
     "begins an entry of a map that has no key and is no group: a key has : or => right behind it";
@@ -94,8 +78,10 @@ pub(crate) fn predicate_at(
     match code {
         Code::Arity => arity_of_name(alloc, before, behind, tokens),
         Code::Duplicate => duplicate(alloc, behind),
+        Code::NotLiteral => literal_case(alloc, before.last()),
+        Code::BadController => controller_case(alloc, before.last()),
         _ => {
-            let words = predicate(code);
+            let words = predicate(code, before.last(), behind, tokens);
             format!(in alloc; "{words}")
         }
     }
@@ -110,9 +96,14 @@ fn duplicate(alloc: Global, here: &[Token<'_>]) -> Result<String, AllocError>
     }
 }
 
-// What is wrong with a token, by the code alone.
-fn predicate(code: Code) -> &'static str
-    ensures { result.now ≡ predicate_of code }
+// What is wrong with the first of the tokens `here`, by the code, the token before it, and all tokens.
+fn predicate(
+    code: Code,
+    last: Option<&Token<'_>>,
+    here: &[Token<'_>],
+    tokens: &[Token<'_>],
+) -> &'static str
+    ensures { result.now ≡ predicate_of code (option_copied last.entry) here.now tokens.now }
 {
     match code {
         Code::NotUtf8 => NOT_UTF8,
@@ -127,19 +118,19 @@ fn predicate(code: Code) -> &'static str
         Code::Unexpected => UNEXPECTED,
         Code::TooNested => TOO_NESTED,
         Code::Duplicate => DUPLICATE,
-        Code::KindClash => KIND_CLASH,
+        Code::KindClash => clash_case(here, tokens),
         Code::Undefined => UNDEFINED,
         Code::Arity => ARITY,
         Code::NoRoot => NO_ROOT,
-        Code::BadRoot => BAD_ROOT,
-        Code::GroupAsType => GROUP_AS_TYPE,
-        Code::HashForm => HASH_FORM,
+        Code::BadRoot => root_case(here),
+        Code::GroupAsType => kind_case(last),
+        Code::HashForm => hash_case(here),
         Code::UnknownControl => UNKNOWN_CONTROL,
         Code::TooManyInstances => TOO_MANY_INSTANCES,
-        Code::NotUnwrappable => NOT_UNWRAPPABLE,
+        Code::NotUnwrappable => opening_case(here),
         Code::Recursion => RECURSION,
         Code::NotLiteral => NOT_LITERAL,
-        Code::BadRange => BAD_RANGE,
+        Code::BadRange => range_case(here),
         Code::BadController => BAD_CONTROLLER,
         Code::NoKey => NO_KEY,
         Code::MapShape => MAP_SHAPE,

@@ -16,6 +16,9 @@ use std::alloc::{AllocError, Global};
 use text_position::position_of;
 use text_shown::{pointed_at, push_shown, shown_part};
 
+pub(crate) const NO_RULE: &str =
+    "the text has no rule that could be the root, and --root names none";
+
 /// What is told of a refusal, in whole lines: the line of the refusal; the name of the file, the line and the column, and the
 /// name of the code; the line of the text, with marks under the part that is meant; and what is wrong with it, with what may
 /// stand in its place, or what was perhaps meant.
@@ -121,6 +124,7 @@ fn of_nothing(alloc: Global, code: Code, root: Option<&str>) -> Result<String, A
             let name = shown(alloc, name)?;
             format!(in alloc; "`{name}`, which --root asks for, is no rule and none of the prelude")
         }
+        (Code::NoRoot, None) => format!(in alloc; "{NO_RULE}"),
         _ => {
             let sentence = sentence(code);
             format!(in alloc; "{sentence}")

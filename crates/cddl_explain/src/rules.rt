@@ -92,7 +92,7 @@ pub(crate) fn assigns(tokens: &[Token<'_>]) -> bool
     }
 }
 
-fn is_assignment(kind: Kind) -> bool
+pub(crate) fn is_assignment(kind: Kind) -> bool
     ensures { result ≡ is_assignment kind }
 {
     matches!(kind, Kind::Assign | Kind::TypeAssign | Kind::GroupAssign)

@@ -1,7 +1,7 @@
-use Rattle.std.proofs.Common.{◌≡◌, [], ◌∙◌, ap, codes, cond, sym, true, false}
+use Rattle.std.proofs.Common.{[], ◌∙◌, ap, codes, cond, sym}
 use Rattle.std.proofs.lemmas.Result.{IfOk-weaker}
 use Rattle.cddl_explain.specs.Arity.{arity, arity_words, bearer_of, last_rule}
-use Rattle.cddl_explain.specs.Rules.{begins_rule, name_of_token}
+use Rattle.cddl_explain.specs.Rules.{name_of_token}
 use Rattle.cddl_explain.proofs.Hinting.{named_here}
 use Rattle.cddl_explain.proofs.arity.arity_of_name.Goals as goal
 

@@ -1,4 +1,4 @@
-use Rattle.std.proofs.Common.{◌≡◌, inl, inr, sym, ◌∙◌, arith, refl, true, false}
+use Rattle.std.proofs.Common.{inl, inr, sym, ◌∙◌, arith, refl, true, false}
 use Rattle.std.proofs.lemmas.List.{at_drop_all}
 use Rattle.cddl_explain.specs.Arity.{lists}
 use Rattle.cddl_explain.specs.declared.rules.InList.TheVariants as in_list

@@ -1,4 +1,4 @@
-use Rattle.std.proofs.Common.{◌≡◌, ◌<◌, ◌≤◌, arith, refl}
+use Rattle.std.proofs.Common.{◌<◌, ◌≤◌, arith, refl}
 use Rattle.std.proofs.lemmas.Bool.{eqb-true, eqb-false}
 use Rattle.cddl_explain.proofs.Expecting.{refused_at_end, refused_before, whole_may}
 use Rattle.cddl_explain.proofs.expected.may_come.Goals as goal

@@ -1,4 +1,4 @@
-use Rattle.std.proofs.Common.{◌≡◌, arith, refl}
+use Rattle.std.proofs.Common.{arith, refl}
 use Rattle.std.specs.List.{Contains}
 use Rattle.cddl_token.specs.declared.Kind.{Kind}
 use Rattle.cddl_token.specs.declared.Kind.TheVariants.{ParenClose, BracketClose, BraceClose, AngleClose, Comma, Colon, Arrow, Cut, Assign, TypeAssign, GroupAssign, Slash, DoubleSlash, Range, RangeBelow, Control, Occur, Name, NameOpen, Number, Text, Bytes, Hash, TagOpen, TagHeadOpen, SimpleHeadOpen, ParenOpen, BracketOpen, BraceOpen, Tilde, Ampersand, End}

@@ -1,4 +1,4 @@
-use Rattle.std.proofs.Common.{sym, ◌∙◌, ap, arith}
+use Rattle.std.proofs.Common.{sym, ◌∙◌, arith}
 use Rattle.std.proofs.lemmas.List.{at_drop_all}
 use Rattle.cddl_explain.specs.Meant.{has_dots}
 use Rattle.cddl_explain.proofs.meant.has_dots.Goals as goal

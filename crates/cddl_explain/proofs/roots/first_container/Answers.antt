@@ -1,9 +1,9 @@
 use Rattle.std.proofs.Common.{sym, ◌∙◌, ap, arith}
 use Rattle.std.proofs.lemmas.List.{at_drop_all}
-use Rattle.cddl_explain.specs.Meant.{begins_container, first_container}
+use Rattle.cddl_explain.specs.Roots.{begins_container, first_container}
 use Rattle.cddl_explain.proofs.Ruling.{rest_whole}
 use Rattle.cddl_explain.proofs.Wording.{no_container}
-use Rattle.cddl_explain.proofs.meant.first_container.Goals as goal
+use Rattle.cddl_explain.proofs.roots.first_container.Goals as goal
 
 pub rule-preserved : goal.rule-preserved
 rule-preserved c =
