@@ -375,7 +375,7 @@ fn with_specification<'a>(alloc: Global, command: Command<'a>) -> Result<Command
         .arg(flag_arg(
             alloc,
             "explain",
-            "Says where in SPEC and why, where SPEC is refused or an item does not match",
+            "Says where and why SPEC is refused, with its further faults, or an item does not match",
         ))
 }
 
