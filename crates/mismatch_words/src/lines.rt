@@ -1,7 +1,9 @@
 //! Many lines together.
 
-ghost use Rattle.std.specs.Prelude.{◌≡◌, ◌+◌, ◌<◌, ◌^◌, flat_map, map, IfOk, OnOk, string_bytes};
-ghost use Rattle.mismatch_words.specs.Lines.{ends_with_line, told_lines, with_line};
+ghost use Rattle.std.specs.Prelude.{◌≡◌, flat_map, map, nat_eq, IfOk, OnOk, string_bytes};
+ghost use Rattle.std.specs.Cmp.Lexicographic.{pointwise};
+ghost use Rattle.std.specs.List.{list_any};
+ghost use Rattle.mismatch_words.specs.Lines.{told_lines, with_line};
 
 use crate::reasons::more_line;
 use std::alloc::{AllocError, Global};
@@ -9,7 +11,7 @@ use std::alloc::{AllocError, Global};
 // So many lines are told, at most.
 const MOST_LINES: usize = 10;
 
-/// Puts a line behind others, unless the last of them is the same.
+/// Puts a line behind others, unless it is one of them.
 ///
 /// # Errors
 ///
@@ -17,20 +19,17 @@ const MOST_LINES: usize = 10;
 pub fn push_line(lines: &mut Vec<String>, line: String) -> Result<(), AllocError>
     ensures { OnOk result (map string_bytes lines.new.items ≡ with_line (map string_bytes lines.old.items) (string_bytes line)) }
 {
-    if !ends_with_line(lines.as_slice(), line.as_str()) {
+    if !has_line(lines.as_slice(), line.as_str()) {
         lines.push(line)?;
     }
     Ok(())
 }
 
-// Whether the last of these lines is this one.
-fn ends_with_line(lines: &[String], line: &str) -> bool
-    ensures { result ≡ ends_with_line (map string_bytes lines.now) line.now }
+// Whether this line is one of them.
+fn has_line(lines: &[String], line: &str) -> bool
+    ensures { result ≡ list_any (λ told. pointwise nat_eq (string_bytes told) line.now) lines.now }
 {
-    match lines.last() {
-        Some(last) => *last.as_str() == *line,
-        None => false,
-    }
+    lines.iter().any(|told| *told.as_str() == *line)
 }
 
 /// The text of these lines: the first ten, and then how many more there are, with so many others.
