@@ -1,6 +1,6 @@
 -- What a reason tells.
-use Rattle.std.proofs.Common.{◌≡◌, ℕ, ◌+◌, ◌<◌, ◌≤◌, List, [], ◌∷◌, ◌++◌, Contains, get_or, length, map, subst, take, append_assoc, arith, ap, sym, ◌∙◌, refl, All}
-use Rattle.std.proofs.lemmas.List.{append-nil, map-append, take_all, take_more}
+use Rattle.std.proofs.Common.{◌≡◌, ℕ, ◌+◌, ◌<◌, ◌≤◌, List, [], ◌∷◌, ◌++◌, Contains, get_or, length, subst, take, append_assoc, arith, ap, sym, ◌∙◌, refl, All}
+use Rattle.std.proofs.lemmas.List.{append-nil, take_all, take_more}
 use Rattle.cddl_meaning.specs.Forms as F
 use Rattle.cddl_meaning.specs.Forms.{Language}
 use Rattle.cbor_data.specs.Value.{Value}
@@ -34,9 +34,11 @@ links_push (x ∷ xs) o =
     let first = type_of (question_view x.question) ++ part_of (pending_view x.pending) in
     ap (λ ts. first ++ ts) (links_push xs o) ∙ sym (append_assoc first (links_of (asked_in xs) (waits_in xs)) (type_of (question_view o.question) ++ part_of (pending_view o.pending)))
 
-strings_append : (xs ys : List (Pending TypeId GroupId)) → strings_of (xs ++ ys) ≡ strings_of xs ++ strings_of ys
-strings_append [] ys = refl
-strings_append (x ∷ xs) ys = ap (λ ts. string_of x ++ ts) (strings_append xs ys) ∙ sym (append_assoc (string_of x) (strings_of xs) (strings_of ys))
+strings_push : (l : Language TypeId GroupId) (os : List Open) (o : Open) → strings_of l (asked_in (os ++ o ∷ [])) (waits_in (os ++ o ∷ [])) ≡ strings_of l (asked_in os) (waits_in os) ++ string_of l (question_view o.question) (pending_view o.pending)
+strings_push l [] o = append-nil (string_of l (question_view o.question) (pending_view o.pending))
+strings_push l (x ∷ xs) o =
+    let first = string_of l (question_view x.question) (pending_view x.pending) in
+    ap (λ ss. first ++ ss) (strings_push l xs o) ∙ sym (append_assoc first (strings_of l (asked_in xs) (waits_in xs)) (string_of l (question_view o.question) (pending_view o.pending)))
 
 -- one more of them
 one_more : (xs : List Open) (i : ℕ) (o : Open) → i < length xs → o ≡ get_or xs i o → take (i + 1) xs ≡ take i xs ++ o ∷ []
@@ -48,15 +50,11 @@ links_more xs i o lt e = ap (λ ys. links_of (asked_in ys) (waits_in ys)) (one_m
 pub links_whole : (xs : List Open) (i : ℕ) → length xs ≤ i → links_of (asked_in (take i xs)) (waits_in (take i xs)) ≡ links_of (asked_in xs) (waits_in xs)
 links_whole xs i le = ap (λ ys. links_of (asked_in ys) (waits_in ys)) (take_all i xs le)
 
-pub strings_more : (xs : List Open) (i : ℕ) (o : Open) → i < length xs → o ≡ get_or xs i o → strings_of (waits_in (take (i + 1) xs)) ≡ strings_of (waits_in (take i xs)) ++ string_of (pending_view o.pending)
-strings_more xs i o lt e =
-    ap (λ ys. strings_of (waits_in ys)) (one_more xs i o lt e)
-    ∙ ap strings_of (map-append (λ (o : Open). pending_view o.pending) (take i xs) (o ∷ []))
-    ∙ strings_append (waits_in (take i xs)) (pending_view o.pending ∷ [])
-    ∙ ap (λ ts. strings_of (waits_in (take i xs)) ++ ts) (append-nil (string_of (pending_view o.pending)))
+pub strings_more : (l : Language TypeId GroupId) (xs : List Open) (i : ℕ) (o : Open) → i < length xs → o ≡ get_or xs i o → strings_of l (asked_in (take (i + 1) xs)) (waits_in (take (i + 1) xs)) ≡ strings_of l (asked_in (take i xs)) (waits_in (take i xs)) ++ string_of l (question_view o.question) (pending_view o.pending)
+strings_more l xs i o lt e = ap (λ ys. strings_of l (asked_in ys) (waits_in ys)) (one_more xs i o lt e) ∙ strings_push l (take i xs) o
 
-pub strings_whole : (xs : List Open) (i : ℕ) → length xs ≤ i → strings_of (waits_in (take i xs)) ≡ strings_of (waits_in xs)
-strings_whole xs i le = ap (λ ys. strings_of (waits_in ys)) (take_all i xs le)
+pub strings_whole : (l : Language TypeId GroupId) (xs : List Open) (i : ℕ) → length xs ≤ i → strings_of l (asked_in (take i xs)) (waits_in (take i xs)) ≡ strings_of l (asked_in xs) (waits_in xs)
+strings_whole l xs i le = ap (λ ys. strings_of l (asked_in ys) (waits_in ys)) (take_all i xs le)
 
 -- the first of the last entries, and those after it
 pub end_has : (es left others : List (F.MapEntry TypeId)) (e : F.MapEntry TypeId) → left ≡ e ∷ others → EndIn es left → Contains es e

@@ -1,5 +1,5 @@
 -- What a reason tells: a question that was open, and has failed.
-use Rattle.std.specs.Prelude.{◌≡◌, ◌≢◌, ◌⊎◌, ℕ, ◌<◌, ◌≤◌, List, [], ◌∷◌, ◌++◌, All, length, reverse}
+use Rattle.std.specs.Prelude.{◌≡◌, ◌≢◌, ◌⊎◌, ℕ, ◌<◌, ◌≤◌, List, [], ◌∷◌, ◌++◌, All, Option, Some, None, length, map, reverse}
 use Rattle.std.specs.List.{Contains}
 use Rattle.cbor_data.specs.Value.{Value}
 use Rattle.cddl_meaning.specs.Forms as F
@@ -18,6 +18,7 @@ use Rattle.type_links.specs.declared.link.Link.{Link}
 use Rattle.type_links.specs.declared.link.Link.TheVariants as L
 use Rattle.cddl_reasons.specs.declared.causes.Cause.{Cause}
 use Rattle.cddl_reasons.specs.declared.causes.Cause.TheVariants as C
+use Rattle.cddl_reasons.specs.declared.causes.Holder.{Holder}
 use Rattle.cddl_reasons.specs.declared.causes.Reason.{Reason}
 use Rattle.cddl_reasons.specs.declared.causes.Reasons.{Reasons}
 
@@ -41,14 +42,32 @@ abbrev pub links_of : List (M.Question TypeId GroupId) → List (M.Pending TypeI
 links_of (q ∷ qs) (o ∷ os) = (type_of q ++ part_of o) ++ links_of qs os
 links_of _ _ = []
 
--- the place of the byte string whose content is asked about, if one's is
-abbrev pub string_of : M.Pending TypeId GroupId → List ℕ
-string_of (M.InHeld p next) = p ∷ []
-string_of _ = []
+-- what a type reads in a byte string, if it reads anything
+abbrev pub content_in : F.Node TypeId GroupId → Option F.Content
+content_in (F.Holding m c k) = Some c
+content_in _ = None
 
-abbrev pub strings_of : List (M.Pending TypeId GroupId) → List ℕ
-strings_of [] = []
-strings_of (o ∷ os) = string_of o ++ strings_of os
+abbrev pub content_of : Language TypeId GroupId → M.Question TypeId GroupId → Option F.Content
+content_of l (M.OfType n p x) = content_in (l.type_at n)
+content_of l _ = None
+
+abbrev pub string_at : ℕ → Option F.Content → List (ℕ × F.Content)
+string_at p (Some c) = (p, c) ∷ []
+string_at p None = []
+
+-- the byte string whose content the question asks about, if it does so: its place, and what is read there
+abbrev pub string_of : Language TypeId GroupId → M.Question TypeId GroupId → M.Pending TypeId GroupId → List (ℕ × F.Content)
+string_of l q (M.InHeld p next) = string_at p (content_of l q)
+string_of l q _ = []
+
+-- those of many questions, by how each of them waits
+abbrev pub strings_of : Language TypeId GroupId → List (M.Question TypeId GroupId) → List (M.Pending TypeId GroupId) → List (ℕ × F.Content)
+strings_of l (q ∷ qs) (o ∷ os) = string_of l q o ++ strings_of l qs os
+strings_of l _ _ = []
+
+-- a byte string, as the definitions have it
+abbrev pub holder_view : Holder → ℕ × F.Content
+holder_view h = (h.place, content_view h.content)
 
 -- No item of an array is left for the group, which is one of this type.
 abbrev pub IsMissing : Language TypeId GroupId → M.Question TypeId GroupId → TypeId → Type 0
@@ -101,7 +120,7 @@ pub record IsReason (l : Language TypeId GroupId) (first : M.Question TypeId Gro
   pub opened : AreOpenWith l first (last ∷ reverse before) (reverse waits ++ M.InRef ∷ []) next
   pub fails : (w : ℕ) × Replies l last (Fails r.place) w
   pub links : r.links.items ≡ links_of before waits ++ type_of last
-  pub strings : r.strings.items ≡ strings_of waits
+  pub strings : map holder_view r.strings.items ≡ strings_of l before waits
   pub cause : IsCause l last r.place r.cause
 
 -- The table says no to the item, which shows at that place, and these are reasons for it: some, if any are asked for.

@@ -22,15 +22,24 @@ pub enum Cause {
     NothingHeld { content: Content },
 }
 
+/// A byte string that holds what a type asks about.
+#[derive(Clone, Copy)]
+pub struct Holder {
+    /// Where it is.
+    pub place: usize,
+    /// Whether it was read as one item or as a sequence, which is the array of its items.
+    pub content: Content,
+}
+
 /// A question that has failed.
 #[derive(Drop)]
 pub struct Reason {
     /// What led there: the types that are open, the root type first, and the alternatives of groups and their entries before the
     /// types that these ask. Right before the type of a map entry's value stands the type of its key.
     pub links: Vec<Link>,
-    /// The places of the byte strings in whose content that is, the outermost first. Each counts in the one before it.
-    pub strings: Vec<usize>,
-    /// Where it has failed: in the item, or in the content of the last of these strings.
+    /// The byte strings in whose content that is, the outermost first. The place of each counts in what the one before it holds.
+    pub strings: Vec<Holder>,
+    /// Where it has failed: in the item, or in what the last of these strings holds.
     pub place: usize,
     pub cause: Cause,
 }

@@ -9,5 +9,5 @@ mod run;
 mod telling;
 mod turns;
 
-pub use crate::causes::{Cause, Reason, Reasons};
+pub use crate::causes::{Cause, Holder, Reason, Reasons};
 pub use crate::collecting::find_reasons;

@@ -1,27 +1,28 @@
 //! What is told of a question that has failed.
 
-ghost use Rattle.std.specs.Prelude.{◌≡◌, ◌++◌, ℕ, List, [], All, IfOk, IfSome};
+ghost use Rattle.std.specs.Prelude.{◌≡◌, ◌++◌, ℕ, List, [], All, IfOk, IfSome, map};
+ghost use Rattle.std.specs.Option.{option_map};
 ghost use Rattle.std.specs.List.{Contains};
 ghost use Rattle.cbor_data.specs.Value.{Pairs, Value};
 ghost use Rattle.cddl_meaning.specs.Forms as F;
 ghost use Rattle.cddl_meaning.specs.Judges as J;
 ghost use Rattle.cddl_meaning.specs.Moves as M;
 ghost use Rattle.cddl_reasons.specs.Opened.{StandsAt, asked_in, waits_in};
-ghost use Rattle.cddl_reasons.specs.Told.{IsCause, IsCount, IsEntryOf, IsReason, links_of, part_of, string_of, strings_of, type_of};
+ghost use Rattle.cddl_reasons.specs.Told.{IsCause, IsCount, IsEntryOf, IsReason, content_in, content_of, holder_view, links_of, part_of, string_of, strings_of, type_of};
 ghost use Rattle.match_moves.specs.Views.{pending_group_view, pending_map_view, pending_view, question_view, reply_view, values};
 ghost use Rattle.table_nodes.specs.Language.{language_of};
-ghost use Rattle.table_nodes.specs.Nodes.{entries_view, entry_view};
+ghost use Rattle.table_nodes.specs.Nodes.{content_view, entries_view, entry_view, type_view};
 ghost use Rattle.table_nodes.specs.declared.nodes.GroupId.{GroupId};
 ghost use Rattle.table_nodes.specs.declared.nodes.TypeId.{TypeId};
 
 use crate::aims::{Aim, is_at};
-use crate::causes::{Cause, Reason};
+use crate::causes::{Cause, Holder, Reason};
 use crate::found::{Deeper, Found};
 use crate::run::{Open, Run, Wanted};
 use item_nodes::Item;
 use match_moves::{Counts, Pending, PendingGroup, PendingMap, PendingType, Question, Reply};
 use std::alloc::{AllocError, Global};
-use table_nodes::{Group, GroupId, MapEntry, Most, Node, Table, TypeId};
+use table_nodes::{Content, Group, GroupId, MapEntry, Most, Node, Table, TypeId};
 use type_links::Link;
 
 // The type that is asked, if one is, is put behind others.
@@ -90,23 +91,61 @@ fn links_in(alloc: Global, below: &[Open<'_, '_>]) -> Result<Vec<Link>, AllocErr
     Ok(links)
 }
 
-// The place of the byte string whose content is asked about, if one's is, is put behind others.
-fn push_string(strings: &mut Vec<usize>, pending: &Pending<'_, '_>) -> Result<(), AllocError>
-    ensures { IfOk result (λ _. strings.new.items ≡ strings.old.items ++ string_of (pending_view pending.now)) }
+// What the question reads in a byte string, if it reads anything.
+fn content_of(table: &Table, question: &Question<'_, '_>) -> Option<Content>
+    ensures { option_map content_view result ≡ content_of (language_of table.now) (question_view question.now) }
 {
-    if let Pending::Type(PendingType::Held { place, .. }) = pending {
-        strings.push(*place)?;
+    let Question::OfType { node, .. } = question else {
+        return None;
+    };
+    match table.node(*node) {
+        Some(node) => content_in(node),
+        None => None,
+    }
+}
+
+// What a type reads in a byte string, if it reads anything.
+fn content_in(node: &Node) -> Option<Content>
+    ensures { option_map content_view result ≡ content_in (type_view node.now) }
+{
+    match node {
+        Node::Holding(_, content, _) => Some(*content),
+        _ => None,
+    }
+}
+
+// The byte string whose content the question asks about, if it does so, is put behind others.
+fn push_string(
+    table: &Table,
+    strings: &mut Vec<Holder>,
+    question: &Question<'_, '_>,
+    pending: &Pending<'_, '_>,
+) -> Result<(), AllocError>
+    ensures { IfOk result (λ _. map holder_view strings.new.items ≡ map holder_view strings.old.items ++ string_of (language_of table.now) (question_view question.now) (pending_view pending.now)) }
+{
+    let Pending::Type(PendingType::Held { place, .. }) = pending else {
+        return Ok(());
+    };
+    if let Some(content) = content_of(table, question) {
+        strings.push(Holder {
+            place: *place,
+            content,
+        })?;
     }
     Ok(())
 }
 
-// The places of the byte strings whose content these questions ask about, the outermost first.
-fn strings_in(alloc: Global, below: &[Open<'_, '_>]) -> Result<Vec<usize>, AllocError>
-    ensures { IfOk result (λ strings. strings.items ≡ strings_of (waits_in below.now)) }
+// The byte strings whose content these questions ask about, the outermost first.
+fn strings_in(
+    alloc: Global,
+    table: &Table,
+    below: &[Open<'_, '_>],
+) -> Result<Vec<Holder>, AllocError>
+    ensures { IfOk result (λ strings. map holder_view strings.items ≡ strings_of (language_of table.now) (asked_in below.now) (waits_in below.now)) }
 {
     let mut strings = Vec::new(alloc);
     for waiting in below {
-        push_string(&mut strings, &waiting.pending)?;
+        push_string(table, &mut strings, &waiting.question, &waiting.pending)?;
     }
     Ok(strings)
 }
@@ -263,7 +302,7 @@ fn reason_of(
     let below = run.below.as_slice();
     let mut links = links_in(alloc, below)?;
     push_type(&mut links, &run.last.question)?;
-    let strings = strings_in(alloc, below)?;
+    let strings = strings_in(alloc, table, below)?;
     Ok(Reason {
         links,
         strings,

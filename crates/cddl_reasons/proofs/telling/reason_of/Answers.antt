@@ -17,6 +17,6 @@ returns c = λ first cause at.
       opened = at;
       fails = open_replies (language_of c.args.table.now) at;
       links = c.in_ok-push_type.ensures ∙ ap (λ ts. ts ++ type_of (question_view run.last.question)) (c.in_ok-links.ensures ∙ ap (λ os. links_of (asked_in os) (waits_in os)) c.as_slice-below.ensures.value);
-      strings = c.in_ok-strings.ensures ∙ ap (λ os. strings_of (waits_in os)) c.as_slice-below.ensures.value;
+      strings = c.in_ok-strings.ensures ∙ ap (λ os. strings_of (language_of c.args.table.now) (asked_in os) (waits_in os)) c.as_slice-below.ensures.value;
       cause = cause;
     }
