@@ -1,18 +1,19 @@
 -- The lines of reasons, one by one.
-use Rattle.std.proofs.Common.{◌≡◌, ℕ, zero, suc, ◌+◌, List, [], ◌∷◌, ◌++◌, take, Option, Some, None, IfNone, IfSome, slice_get, refl, sym, ap, subst, ◌∙◌, arith}
+use Rattle.std.proofs.Common.{◌≡◌, ℕ, zero, suc, ◌+◌, List, [], ◌∷◌, ◌++◌, codes, map, take, Option, Some, None, IfNone, IfSome, slice_get, refl, sym, ap, subst, ◌∙◌, arith}
 use Rattle.std.specs.List.{Contains}
 use Rattle.cbor_data.specs.Value.{Value}
 use Rattle.cddl_token.specs.declared.Token.{Token}
 use Rattle.type_links.specs.declared.link.Link.{Link}
 use Rattle.cddl_sources.specs.declared.place.Place.{Place}
 use Rattle.cddl_sources.specs.declared.sources.Sources.{Sources}
+use Rattle.cddl_reasons.specs.Told.{holder_view}
 use Rattle.cddl_reasons.specs.declared.causes.Reason.{Reason}
 use Rattle.mismatch_words.specs.Lines.{with_line}
 use Rattle.mismatch_words.specs.Reasons.{line_text}
 use Rattle.mismatch_words.specs.declared.causes.Cause.{Cause}
 use Rattle.cddl_mismatch.specs.Causes.{chain_of, told_cause}
 use Rattle.cddl_mismatch.specs.Lines.{IsLineAt}
-use Rattle.cddl_mismatch.specs.Places.{ArePlaceWords, outer_place}
+use Rattle.cddl_mismatch.specs.Places.{ArePlaceWords}
 use Rattle.cddl_mismatch.specs.Explained.{AreLines, IsPlaceOf, IsPlaced, IsToldOf, nowhere, one_more}
 
 abbrev value_or : {A : Type 0} → A → Option A → A
@@ -35,8 +36,8 @@ pub placed : (x : Sources) (chain : List Link) (p : Option Place) → IfSome p (
 placed x chain (Some p) some none = some
 placed x chain None some none = none
 
--- the line tells what is found at the place in the whole item
-pub told_there : (text : List ℕ) (tokens : List Token) (file : List ℕ) (p : Place) (x : Value) (r : Reason) (found : List ℕ) (cause : Cause) (line : List ℕ) → ArePlaceWords x (outer_place r.strings.items r.place) found → cause ≡ told_cause r.cause → IsLineAt text tokens file p found cause line → IsToldOf text tokens file p x r line
+-- the line tells what is found at the place
+pub told_there : (text : List ℕ) (tokens : List Token) (file : List ℕ) (p : Place) (x : Value) (r : Reason) (found : List ℕ) (cause : Cause) (line : List ℕ) → ArePlaceWords (codes "$") x (map holder_view r.strings.items) r.place found → cause ≡ told_cause r.cause → IsLineAt text tokens file p found cause line → IsToldOf text tokens file p x r line
 told_there text tokens file p x r found cause line words k h = (found, words, subst (λ c. IsLineAt text tokens file p found c line) k h)
 
 pub one_line_more : (text : List ℕ) (tokens : List Token) (file : List ℕ) (sources : Sources) (x : Value) (rs : List Reason) (lines new : List (List ℕ)) (r : Reason) (p : Place) (line : List ℕ) → new ≡ with_line lines line → IsPlaced sources r (Some p) → IsToldOf text tokens file p x r line → AreLines text tokens file sources x rs lines → AreLines text tokens file sources x (rs ++ r ∷ []) new

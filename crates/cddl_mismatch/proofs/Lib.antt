@@ -1,2 +1,4 @@
 mod Joining
+mod Paths
+mod Reading
 mod Untold

@@ -1,5 +1,5 @@
 -- What is told of an item that does not match the specification that a text is.
-use Rattle.std.specs.Prelude.{◌≡◌, ℕ, List, [], ◌∷◌, ◌++◌, Option, Some, None}
+use Rattle.std.specs.Prelude.{◌≡◌, ℕ, List, [], ◌∷◌, ◌++◌, Option, Some, None, codes, map}
 use Rattle.std.specs.List.{Contains}
 use Rattle.cbor_data.specs.Value.{Value}
 use Rattle.cddl_token.specs.declared.Refusal.{Refusal}
@@ -22,13 +22,13 @@ use Rattle.cddl_sources.specs.Places.{IsOfNoRule, IsPlace}
 use Rattle.cddl_sources.specs.Sources.{AreSources, AreSourcesOf}
 use Rattle.cddl_sources.specs.declared.place.Place.{Place}
 use Rattle.cddl_sources.specs.declared.sources.Sources.{Sources}
-use Rattle.cddl_reasons.specs.Told.{AreReasons, HasNone}
+use Rattle.cddl_reasons.specs.Told.{AreReasons, HasNone, holder_view}
 use Rattle.cddl_reasons.specs.declared.causes.Reason.{Reason}
 use Rattle.cddl_reasons.specs.declared.causes.Reasons.{Reasons}
 use Rattle.mismatch_words.specs.Lines.{told_lines, with_line}
 use Rattle.cddl_mismatch.specs.Causes.{chain_of, told_cause}
 use Rattle.cddl_mismatch.specs.Lines.{IsLineAt}
-use Rattle.cddl_mismatch.specs.Places.{ArePlaceWords, outer_place}
+use Rattle.cddl_mismatch.specs.Places.{ArePlaceWords}
 use Rattle.cddl_mismatch.specs.declared.reasons.TheConstants.{MOST}
 
 -- The place is that of the last of the types to which these links lead that stands in the text. Nothing is told where they are of no
@@ -41,11 +41,11 @@ abbrev pub IsPlaced : Sources → Reason → Option Place → Type 0
 IsPlaced x r p = IsPlaceOf x (chain_of r) p
 
 module _ (text : List ℕ) (tokens : List Token) (file : List ℕ) where
-  -- The line tells the place and what is there, where the type stands, and what is wrong.
+  -- The line tells the place and what is there, in byte strings too, where the type stands, and what is wrong.
   abbrev pub IsToldOf : Place → Value → Reason → List ℕ → Type 0
-  IsToldOf p x r line = (found : List ℕ) × ArePlaceWords x (outer_place r.strings.items r.place) found × IsLineAt text tokens file p found (told_cause r.cause) line
+  IsToldOf p x r line = (found : List ℕ) × ArePlaceWords (codes "$") x (map holder_view r.strings.items) r.place found × IsLineAt text tokens file p found (told_cause r.cause) line
 
-  -- The lines of these reasons, in order: one for each whose types stand in the text, but for one that is the same as the last.
+  -- The lines of these reasons, in order: one for each whose types stand in the text, but for one that is there already.
   pub data AreLines (sources : Sources) (x : Value) : List Reason → List (List ℕ) → Type 0 where
     no_reason : AreLines sources x [] []
     one_more : {rs : List Reason} {lines : List (List ℕ)} → AreLines sources x rs lines → (r : Reason) (p : Place) (line : List ℕ) → IsPlaced sources r (Some p) → IsToldOf p x r line → AreLines sources x (rs ++ r ∷ []) (with_line lines line)

@@ -1,30 +1,82 @@
 //! What is shown of a place of an item.
 
-ghost use Rattle.std.specs.Prelude.{◌≡◌, IfOk, option_map, string_bytes};
+ghost use Rattle.std.specs.Prelude.{◌≡◌, ◌++◌, codes, IfOk, map, OnOk, option_map, string_bytes};
 ghost use Rattle.item_nodes.specs.View.{view};
-ghost use Rattle.cbor_item.specs.Place.Paths.{path};
-ghost use Rattle.cddl_mismatch.specs.Places.{outer_place, path_shown, ArePlaceWords, IsValueShown};
+ghost use Rattle.cddl_reasons.specs.Told.{holder_view};
+ghost use Rattle.cddl_mismatch.specs.Places.{steps_to, AreWordsAt, ArePlaceWords, IsValueShown};
 
+use crate::held::held_at;
 use cbor_item::{Item, item_at, path_text};
+use cddl_reasons::Holder;
 use mismatch_words::{path_words, shown_value};
 use std::alloc::{AllocError, Global};
 
-// The path of the place, and what is there.
-pub(crate) fn place_words(alloc: Global, item: &Item, place: usize) -> Result<String, AllocError>
-    ensures { IfOk result (λ words. ArePlaceWords (view item.now) place (string_bytes words)) }
+// The path of the place, and what is there. The place counts in what the last of these byte strings holds, and that of each
+// string in what the one before it holds.
+pub(crate) fn place_words(
+    alloc: Global,
+    item: &Item,
+    strings: &[Holder],
+    place: usize,
+) -> Result<String, AllocError>
+    ensures { IfOk result (λ words. ArePlaceWords (codes "$") (view item.now) (map holder_view strings.now) place (string_bytes words)) }
 {
-    let path = path_shown(alloc, item, place)?;
+    let mut path = Vec::new(alloc);
+    path.push(b'$')?;
+    words_behind(alloc, path, item, strings, place)
+}
+
+// The same, where this path leads to the item.
+fn words_behind(
+    alloc: Global,
+    mut path: Vec<u8>,
+    item: &Item,
+    strings: &[Holder],
+    place: usize,
+) -> Result<String, AllocError>
+    ensures { IfOk result (λ words. ArePlaceWords path.items (view item.now) (map holder_view strings.now) place (string_bytes words)) }
+{
+    let Some((string, others)) = strings.split_first() else {
+        return words_at(alloc, path, item, place);
+    };
+    let Some(held) = held_at(alloc, item, *string)? else {
+        return words_at(alloc, path, item, string.place);
+    };
+    push_steps(alloc, &mut path, item, string.place)?;
+    path.extend_from_slice(b"<<>>")?;
+    words_behind(alloc, path, &held, others, place)
+}
+
+// The path and what is there, where the place counts in the item to which this path leads.
+fn words_at(
+    alloc: Global,
+    mut path: Vec<u8>,
+    item: &Item,
+    place: usize,
+) -> Result<String, AllocError>
+    ensures { IfOk result (λ words. AreWordsAt path.items (view item.now) place (string_bytes words)) }
+{
+    push_steps(alloc, &mut path, item, place)?;
+    let path = path_words(alloc, path.as_slice())?;
     let value = value_shown(alloc, item_at(item, place))?;
     format!(in alloc; "{path}: {value}")
 }
 
-fn path_shown(alloc: Global, item: &Item, place: usize) -> Result<String, AllocError>
-    ensures { IfOk result (λ words. string_bytes words ≡ path_shown (path (view item.now) place)) }
+// Puts the steps to the place behind a path.
+#[tactic(auto, using(crate::proofs::Paths::has_first, crate::proofs::Paths::steps_put, crate::proofs::Paths::no_steps_put))]
+fn push_steps(
+    alloc: Global,
+    path: &mut Vec<u8>,
+    item: &Item,
+    place: usize,
+) -> Result<(), AllocError>
+    ensures { OnOk result (path.new.items ≡ path.old.items ++ steps_to (view item.now) place) }
 {
-    match path_text(alloc, item, place)? {
-        Some(path) => path_words(alloc, path.as_slice()),
-        None => Ok(String::new(alloc)),
+    if let Some(steps) = path_text(alloc, item, place)? {
+        // Without its `$`.
+        path.extend_from_slice(&steps[1..])?;
     }
+    Ok(())
 }
 
 fn value_shown(alloc: Global, found: Option<&Item>) -> Result<String, AllocError>
@@ -33,15 +85,5 @@ fn value_shown(alloc: Global, found: Option<&Item>) -> Result<String, AllocError
     match found {
         Some(item) => shown_value(alloc, item),
         None => Ok(String::new(alloc)),
-    }
-}
-
-// The place in the whole item. Of what byte strings hold that is the place of the outermost string.
-pub(crate) fn outer_place(strings: &[usize], place: usize) -> usize
-    ensures { result ≡ outer_place strings.now place }
-{
-    match strings.first() {
-        Some(string) => *string,
-        None => place,
     }
 }

@@ -6,7 +6,7 @@ ghost use Rattle.cddl_mismatch.specs.Explained.{AreLines, AreTold, IsPlaced, IsT
 
 use crate::causes::{chain_of, told_cause};
 use crate::lines::{Source, line_at};
-use crate::places::{outer_place, place_words};
+use crate::places::place_words;
 use cbor_item::Sound;
 use cddl_reasons::{Reason, Reasons};
 use cddl_sources::{Place, Sources};
@@ -62,7 +62,7 @@ fn reason_at(reasons: &[Reason], index: usize) -> &Reason
     }
 }
 
-// Puts the line of one reason more behind others, if its types stand anywhere.
+// Puts the line of one reason more behind others, if its types stand anywhere and it is not there already.
 fn add_line(
     alloc: Global,
     source: Source<'_>,
@@ -101,8 +101,7 @@ fn line_of(
 ) -> Result<String, AllocError>
     ensures { IfOk result (λ line. IsToldOf source.entry.text.now source.entry.tokens.now source.entry.file.now place item.now reason.now (string_bytes line)) }
 {
-    let at = outer_place(&reason.strings, reason.place);
-    let found = place_words(alloc, item.item(), at)?;
+    let found = place_words(alloc, item.item(), &reason.strings, reason.place)?;
     line_at(
         alloc,
         source,
