@@ -31,7 +31,7 @@ pub(crate) fn push_reasons(
     }
 }
 
-// What led there, the strings in whose content it is, the place, and the cause.
+// What led there, the strings in whose content it is, of a sequence with `*`, the place, and the cause.
 fn push_reason(alloc: Global, reason: &Reason, out: &mut String) -> Result<(), AllocError> {
     out.push_str(", ")?;
     for link in &reason.links {
@@ -39,9 +39,12 @@ fn push_reason(alloc: Global, reason: &Reason, out: &mut String) -> Result<(), A
         out.push_str(" ")?;
     }
     out.push_str("at ")?;
-    for place in &reason.strings {
-        push_number(alloc, *place as u64, out)?;
-        out.push_str(":")?;
+    for string in &reason.strings {
+        push_number(alloc, string.place as u64, out)?;
+        out.push_str(match string.content {
+            Content::OneItem => ":",
+            Content::Sequence => "*:",
+        })?;
     }
     push_number(alloc, reason.place as u64, out)?;
     push_cause(alloc, reason.cause, out)
