@@ -1,5 +1,5 @@
 -- The types in each kind of node.
-use Rattle.std.proofs.Common.{◌≡◌, List, [], ◌∷◌, ◌++◌, map, Option, Box, Global, refl, sym, ap, ◌∙◌, append_assoc}
+use Rattle.std.proofs.Common.{◌≡◌, ◌-◌, List, [], ◌∷◌, ◌++◌, length, map, slice_get, None, Option, Some, Box, Global, refl, sym, ap, ◌∙◌, append_assoc}
 use Rattle.std.proofs.lemmas.List.{append-nil}
 use Rattle.std.specs.List.{flat_map}
 use Rattle.cddl_token.specs.declared.Token.{Token}
@@ -29,9 +29,9 @@ use Rattle.tree_nodes.specs.declared.tree.Rule.TheVariants as RuleV
 use Rattle.tree_nodes.specs.declared.tree.Type1.TheVariants as Type1V
 use Rattle.tree_nodes.specs.declared.tree.Type2.TheVariants as Type2V
 use Rattle.tree_nodes.specs.declared.tree.GrpEnt.TheViews.{out-Types, out-GenericArg, out-Group, out-GrpChoice}
-use Rattle.tree_nodes.specs.View.{view_type1, view_type2, view_ref, view_key, view_grpent, view_rule, view_value, view_further, view_entry, view_choice, view_types, view_arg, view_group, with_types, with_arguments, with_entries, with_choices}
+use Rattle.tree_nodes.specs.View.{leaf, view_type1, view_type2, view_ref, view_key, view_grpent, view_rule, view_value, view_further, view_entry, view_choice, view_types, view_arg, view_group, with_types, with_arguments, with_entries, with_choices}
 use Rattle.tree_nodes.proofs.Lemmas.{view-Name, view-Applied, view-One, view-Operation, view-Literal, view-Typename, view-Parens, view-MapOf, view-ArrayOf, view-Unwrapped, view-ChoiceOf, view-ChoiceOfName, view-Tagged, view-TaggedBy, view-SimpleBy, view-Hash, view-Typed, view-Keyed, view-Grouped, view-TypeKey, view-Bareword, view-ValueKey, view-Entry, view-Further, view_out-GrpChoice, view_out-Types, view_out-GenericArg, view_out-Group}
-use Rattle.cddl_sources.specs.Pieces.{Piece, a_type, a_value, a_word, entries_in, key_piece, operand, in_types, in_members, in_type1, in_type2, in_ref, in_arguments, in_group, in_entries, in_entry, in_key, in_rule}
+use Rattle.cddl_sources.specs.Pieces.{Piece, a_type, a_value, a_word, an_entry, brackets, count_of, entries_in, inner_of, key_piece, operand, in_types, in_members, in_type1, in_type2, in_ref, in_arguments, in_group, in_entries, in_entry, in_key, in_rule, name_of_type1, name_of_types, of_group, of_types, own_count, own_entries, the_rule}
 use Rattle.cddl_sources.specs.Walk.{further_pieces, entry_pieces, choice_pieces}
 
 whole : (t : S.Types) → in_types t ≡ a_type t ∷ in_members t
@@ -123,8 +123,8 @@ module _ (read : Leaf → Token) where
   pub map_pieces : (x : Type2) (o : Leaf) (g : Group) (c : Leaf) → x ≡ Type2V.MapOf o g c → in_type2 (view_type2 read x) ≡ operand (view_type2 read x) ∷ in_group (view_group read g)
   map_pieces x o g c is = seen x _ _ (in_group (view_group read g)) is (view-MapOf read o g c) refl
 
-  pub array_pieces : (x : Type2) (o : Leaf) (g : Group) (c : Leaf) → x ≡ Type2V.ArrayOf o g c → in_type2 (view_type2 read x) ≡ operand (view_type2 read x) ∷ (entries_in (read o) (read c) 0 (view_group read g) ++ in_group (view_group read g))
-  array_pieces x o g c is = seen x _ _ (entries_in (read o) (read c) 0 (view_group read g) ++ in_group (view_group read g)) is (view-ArrayOf read o g c) refl
+  pub array_pieces : (x : Type2) (o : Leaf) (g : Group) (c : Leaf) → x ≡ Type2V.ArrayOf o g c → in_type2 (view_type2 read x) ≡ operand (view_type2 read x) ∷ (entries_in (brackets (read o) (read c)) 0 (view_group read g) ++ in_group (view_group read g))
+  array_pieces x o g c is = seen x _ _ (entries_in (brackets (read o) (read c)) 0 (view_group read g) ++ in_group (view_group read g)) is (view-ArrayOf read o g c) refl
 
   pub unwrapped_pieces : (x : Type2) (u : Leaf) (r : Ref) → x ≡ Type2V.Unwrapped u r → in_type2 (view_type2 read x) ≡ operand (view_type2 read x) ∷ in_ref (view_ref read r)
   unwrapped_pieces x u r is = seen x _ _ (in_ref (view_ref read r)) is (view-Unwrapped read u r) refl
@@ -171,7 +171,7 @@ module _ (read : Leaf → Token) where
       ∙ ap (λ (w : MemberKey). in_key (view_key read w) ++ (a_value (key_piece (view_key read k.value)) (view_types read t) ∷ in_types (view_types read t))) (sym e)
       ∙ ap (λ (w : MemberKey). in_key (view_key read y) ++ (a_value (key_piece (view_key read w)) (view_types read t) ∷ in_types (view_types read t))) (sym f)
 
-  pub grouped_pieces : (x : GrpEnt) (o : Option Leaf) (p : Leaf) (g : Group) (c : Leaf) → x ≡ GrpEntV.Grouped o p g c → in_entry (view_grpent read x) ≡ entries_in (read p) (read c) 0 (view_group read g) ++ in_group (view_group read g)
+  pub grouped_pieces : (x : GrpEnt) (o : Option Leaf) (p : Leaf) (g : Group) (c : Leaf) → x ≡ GrpEntV.Grouped o p g c → in_entry (view_grpent read x) ≡ entries_in (brackets (read p) (read c)) 0 (view_group read g) ++ in_group (view_group read g)
   grouped_pieces x o p g c is = seen_entry x _ _ is (view-Grouped read o p g c)
 
   seen_key : (x y : MemberKey) (v : S.MemberKey) → x ≡ y → view_key read y ≡ v → in_key (view_key read x) ≡ in_key v
@@ -197,8 +197,61 @@ module _ (read : Leaf → Token) where
   pub value_key : (x : MemberKey) (v : Value) (c : Leaf) → x ≡ MemberKeyV.ValueKey v c → operand (S.literal (view_value read v)) ≡ key_piece (view_key read x)
   value_key x v c is = sym (ap (λ (z : MemberKey). key_piece (view_key read z)) is ∙ ap key_piece (view-ValueKey read v c))
 
-  pub type_rule_pieces : (x : Rule) (n : RuleName) (a : AssignT) (t : Types) → x ≡ RuleV.TypeRule n a t → in_rule (view_rule read x) ≡ in_types (view_types read t)
+  pub type_rule_pieces : (x : Rule) (n : RuleName) (a : AssignT) (t : Types) → x ≡ RuleV.TypeRule n a t → in_rule (view_rule read x) ≡ an_entry the_rule 0 0 (of_types (view_types read t)) ∷ in_types (view_types read t)
   type_rule_pieces x n a t is = ap (λ (z : Rule). in_rule (view_rule read z)) is
 
-  pub group_rule_pieces : (x : Rule) (n : RuleName) (a : AssignG) (e : GrpEnt) → x ≡ RuleV.GroupRule n a e → in_rule (view_rule read x) ≡ in_entry (view_grpent read e)
+  pub group_rule_pieces : (x : Rule) (n : RuleName) (a : AssignG) (e : GrpEnt) → x ≡ RuleV.GroupRule n a e → in_rule (view_rule read x) ≡ own_entries (view_grpent read e) ++ in_entry (view_grpent read e)
   group_rule_pieces x n a e is = ap (λ (z : Rule). in_rule (view_rule read z)) is
+
+  -- the entries of the body of a rule
+
+  seen_own : (x y : GrpEnt) (v : S.GrpEnt) → x ≡ y → view_grpent read y ≡ v → own_entries (view_grpent read x) ≡ own_entries v
+  seen_own x y v is e = ap (λ (z : GrpEnt). own_entries (view_grpent read z)) is ∙ ap own_entries e
+
+  pub typed_body : (x : GrpEnt) (o : Option Leaf) (t : Types) → x ≡ GrpEntV.Typed o t → own_entries (view_grpent read x) ≡ an_entry the_rule 0 0 (of_types (view_types read t)) ∷ []
+  typed_body x o t is = seen_own x _ _ is (view-Typed read o t)
+
+  pub keyed_body : (x : GrpEnt) (o : Option Leaf) (k : Box MemberKey Global) (t : Types) → x ≡ GrpEntV.Keyed o k t → own_entries (view_grpent read x) ≡ an_entry the_rule 0 0 (of_types (view_types read t)) ∷ []
+  keyed_body x o k t is = seen_own x _ _ is (view-Keyed read o k t)
+
+  pub grouped_body : (x : GrpEnt) (o : Option Leaf) (l p : Leaf) (g : Group) (c : Leaf) → x ≡ GrpEntV.Grouped o p g c → o ≡ Some l → own_entries (view_grpent read x) ≡ an_entry the_rule 0 0 (of_group (read p) (view_group read g) (read c)) ∷ []
+  grouped_body x o l p g c is e = seen_own x _ _ is (view-Grouped read o p g c) ∙ ap (λ (z : Option Leaf). own_entries (S.grouped (leaf read z) (read p) (view_group read g) (read c))) e
+
+  pub group_body : (x : GrpEnt) (o : Option Leaf) (p : Leaf) (g : Group) (c : Leaf) → x ≡ GrpEntV.Grouped o p g c → o ≡ None → own_entries (view_grpent read x) ≡ entries_in the_rule 0 (view_group read g)
+  group_body x o p g c is e = seen_own x _ _ is (view-Grouped read o p g c) ∙ ap (λ (z : Option Leaf). own_entries (S.grouped (leaf read z) (read p) (view_group read g) (read c))) e
+
+  -- how many alternatives that body makes
+
+  seen_count : (x y : GrpEnt) (v : S.GrpEnt) → x ≡ y → view_grpent read y ≡ v → own_count (view_grpent read x) ≡ own_count v
+  seen_count x y v is e = ap (λ (z : GrpEnt). own_count (view_grpent read z)) is ∙ ap own_count e
+
+  pub typed_count : (x : GrpEnt) (o : Option Leaf) (t : Types) → x ≡ GrpEntV.Typed o t → own_count (view_grpent read x) ≡ 1
+  typed_count x o t is = seen_count x _ _ is (view-Typed read o t)
+
+  pub keyed_count : (x : GrpEnt) (o : Option Leaf) (k : Box MemberKey Global) (t : Types) → x ≡ GrpEntV.Keyed o k t → own_count (view_grpent read x) ≡ 1
+  keyed_count x o k t is = seen_count x _ _ is (view-Keyed read o k t)
+
+  pub grouped_count : (x : GrpEnt) (o : Option Leaf) (l p : Leaf) (g : Group) (c : Leaf) → x ≡ GrpEntV.Grouped o p g c → o ≡ Some l → own_count (view_grpent read x) ≡ 1
+  grouped_count x o l p g c is e = seen_count x _ _ is (view-Grouped read o p g c) ∙ ap (λ (z : Option Leaf). own_count (S.grouped (leaf read z) (read p) (view_group read g) (read c))) e
+
+  pub group_count : (x : GrpEnt) (o : Option Leaf) (p : Leaf) (g : Group) (c : Leaf) → x ≡ GrpEntV.Grouped o p g c → o ≡ None → own_count (view_grpent read x) ≡ count_of (view_group read g)
+  group_count x o p g c is e = seen_count x _ _ is (view-Grouped read o p g c) ∙ ap (λ (z : Option Leaf). own_count (S.grouped (leaf read z) (read p) (view_group read g) (read c))) e
+
+-- the name that a type is alone
+module _ (read : Leaf → Token) where
+  no_name : (t : S.Types) (s : Token) (r : S.Type1) (xs : List Further) → name_of_types (with_types (S.or t s r) (map (view_further read) xs)) ≡ None
+  no_name t s r [] = refl
+  no_name t s r (x ∷ xs) = no_name (S.or t s r) (view_further read x).0 (view_further read x).1 xs
+
+  named_with : (t : Types) (xs : List Further) → (out-Types t).others.items ≡ xs → name_of_types (view_types read t) ≡ name_of_types (with_types (S.only (view_type1 read (out-Types t).first)) (map (view_further read) xs))
+  named_with t xs e = ap name_of_types (view_out-Types read t) ∙ ap (λ (ys : List Further). name_of_types (with_types (S.only (view_type1 read (out-Types t).first)) (map (view_further read) ys))) e
+
+  pub one_name : (t : Types) → (out-Types t).others.items ≡ [] → name_of_type1 (view_type1 read (out-Types t).first) ≡ name_of_types (view_types read t)
+  one_name t e = sym (named_with t [] e)
+
+  pub several_names : (t : Types) (x : Further) → slice_get (out-Types t).others.items (length (out-Types t).others.items - 1) ≡ Some x → None ≡ name_of_types (view_types read t)
+  several_names t x h = by (out-Types t).others.items refl h
+    where
+      by : (xs : List Further) → (out-Types t).others.items ≡ xs → slice_get xs (length xs - 1) ≡ Some x → None ≡ name_of_types (view_types read t)
+      by [] e f = cc
+      by (y ∷ ys) e f = sym (named_with t (y ∷ ys) e ∙ no_name (S.only (view_type1 read (out-Types t).first)) (view_further read y).0 (view_further read y).1 ys)

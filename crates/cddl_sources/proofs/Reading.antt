@@ -15,12 +15,12 @@ use Rattle.tree_nodes.specs.declared.tree.Type1.TheVariants as Type1V
 use Rattle.tree_nodes.specs.View.{view_operator, view_rule, view_type1, view_type2}
 use Rattle.tree_nodes.proofs.Lemmas.{view-One, view-Operation}
 use Rattle.cddl_language.specs.Reading.{operation, term_of1, term_of2}
-use Rattle.cddl_language.specs.Terms.{Term, typed}
+use Rattle.cddl_language.specs.Terms.{Term, Text, typed}
 use Rattle.check_terms.specs.declared.row.Row.{Row}
 use Rattle.check_terms.specs.Table.{Grows, Holds, part, Table}
 use Rattle.check_terms.specs.Trees.{IsEntry, IsTerm, term_tree}
 use Rattle.table_making.specs.declared.origin.TypeOrigin.{TypeOrigin}
-use Rattle.cddl_sources.specs.Origins.{AreRead, IsKeyOf, IsOriginOf, IsRead, MayBeOf, is_of, no_type, of_type, of_value, of_word}
+use Rattle.cddl_sources.specs.Origins.{AreRead, IsKeyOf, IsNumberOf, IsOriginOf, IsRead, MayBeOf, is_of, no_type, of_type, of_value, of_word}
 use Rattle.cddl_sources.specs.Pieces.{Piece, a_type, a_value, a_word, an_entry}
 use Rattle.cddl_sources.specs.Sources.{AreRules, IsRuleAt}
 use Rattle.cddl_sources.specs.declared.node.Found.{Found}
@@ -37,16 +37,20 @@ pub may_kept : (old new : Table) (p : Piece) (o : Option TypeOrigin) → Grows o
 may_kept old new p o g (is_of h) = is_of (origin_kept old new p _ g h)
 may_kept old new p o g no_type = no_type
 
-key_kept : (old new : Table) (p : Piece) (o : Option TypeOrigin) → Grows old new → IsKeyOf old p o → IsKeyOf new p o
+pub key_kept : (old new : Table) (p : Piece) (o : Option TypeOrigin) → Grows old new → IsKeyOf old p o → IsKeyOf new p o
 key_kept old new (a_value k x) o g h = may_kept old new k o g h
 key_kept old new (a_type x) o g h = h
 key_kept old new (a_word w) o g h = h
-key_kept old new (an_entry a c k i e) o g h = h
+key_kept old new (an_entry a k i e) o g h = h
+
+pub name_kept : (old new : Table) (y : Option Text) (o : Option ℕ) → Grows old new → IsNumberOf old y o → IsNumberOf new y o
+name_kept old new None o g h = h
+name_kept old new (Some y) o g h = (h.0, h.1, g.texts h.0 y h.2)
 
 read_kept : (old new : Table) (read : Leaf → Token) (f : Found) (a : PieceAt) → Grows old new → IsRead old read f a → IsRead new read f a
 read_kept old new read f a g h = record {
   rule = h.rule;
-  is = record { origin = may_kept old new _ a.origin g h.is.origin; key = key_kept old new _ a.key g h.is.key; entry = h.is.entry; span = h.is.span };
+  is = record { origin = may_kept old new _ a.origin g h.is.origin; key = key_kept old new _ a.key g h.is.key; entry = h.is.entry; name = name_kept old new _ a.name g h.is.name; span = h.is.span };
 }
 
 pub none_read : (t : Table) (read : Leaf → Token) → AreRead t read [] []
@@ -76,7 +80,7 @@ first_of t n r m x e f (part {i = i} g d a b) = subst (λ (o : Option ℕ). Hold
 -- rules
 
 rule_kept : (old new : Table) (r : S.Rule) (a : RuleAt) → Grows old new → IsRuleAt old r a → IsRuleAt new r a
-rule_kept old new r a g h = record { number = g.texts a.number _ h.number; name = h.name; body = h.body }
+rule_kept old new r a g h = record { number = g.texts a.number _ h.number; alternatives = h.alternatives; name = h.name; body = h.body }
 
 -- the rules so far
 pub record AreSoFar (t : Table) (read : Leaf → Token) (rules : List Rule) (xs : List RuleAt) (i : ℕ) : Type 0 where

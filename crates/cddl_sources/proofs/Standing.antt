@@ -1,8 +1,8 @@
 -- What numbers say of places is so of the names for which the table's types stand.
-use Rattle.std.proofs.Common.{◌≡◌, ℕ, arith, Bool, true, false, List, [], ◌∷◌, Option, Some, None, option_map, slice_get, refl, sym, ap, subst, ◌∙◌}
+use Rattle.std.proofs.Common.{◌≡◌, ℕ, zero, suc, ◌+◌, ◌<◌, drop, if◌then◌else◌, nat_eq, arith, Bool, true, false, List, [], ◌∷◌, Option, Some, None, option_map, slice_get, refl, sym, ap, subst, ◌∙◌}
 use Rattle.std.specs.List.{Contains}
 use Rattle.std.proofs.lemmas.Option.{slice_get-map}
-use Rattle.lists.proofs.Lemmas.{contains_at, no_some, one_of, place_of, same_some, some_none}
+use Rattle.lists.proofs.Lemmas.{contains_at, is_equal, is_unequal, no_some, one_of, place_of, same_some, some_none, test_equal, unequal_number}
 use Rattle.tree_nodes.specs.Syntax.Syntax as S
 use Rattle.cddl_language.specs.Language.{TypeName, reference, type, word}
 use Rattle.cddl_language.specs.Reading.{name_in, rules_of, term_of, text_of}
@@ -18,25 +18,33 @@ use Rattle.table_nodes.specs.declared.nodes.TypeId.{TypeId}
 use Rattle.table_nodes.specs.declared.table.Table.{Table as Made}
 use Rattle.type_links.specs.declared.link.Link.{Link}
 use Rattle.type_links.specs.declared.link.Link.TheVariants as L
-use Rattle.cddl_sources.specs.Origins.{IsKeyOf, IsOriginOf, IsPieceAt, MayBeIn, MayBeOf, Stands, is_of, no_type, of_type, of_value as of_keyed, of_word as of_token}
-use Rattle.cddl_sources.specs.Pieces.{Piece, a_type, a_value, a_word, an_entry, in_rule, name_of_piece, tokens_of_piece}
-use Rattle.cddl_sources.specs.Places.{AreNoPair, ArePairAt, BeginsWithInstance, IsEntryAt, IsOf, IsOfNoRule, IsPlace, IsShown, IsTypeAt, IsValueAt, Leads, LeadsTo, StandsAt, a_piece, arrives, of_entry, of_value, passes, the_body, to_pair, to_type}
+use Rattle.cddl_sources.specs.Origins.{IsKeyOf, IsNumberOf, IsOriginOf, IsPieceAt, MayBeIn, MayBeOf, Stands as IsThere, is_of, no_type, of_type, of_value as of_keyed, of_word as of_token}
+use Rattle.cddl_sources.specs.Pieces.{Piece, a_type, a_value, a_word, alternatives_of, an_entry, brackets, in_rule, name_there, the_rule, name_of_piece, tokens_of_piece}
+use Rattle.cddl_sources.specs.Places.{AreNoPair, ArePairAt, BeginsWithInstance, IsEntryAt, IsEntryNamed, IsEntryWithin, IsOf, IsOfNoRule, IsPlace, IsShown, IsTypeAt, IsValueAt, Leads, LeadsTo, Make, Stands, StandsAt, a_piece, another, arrives, named, no_rules, of_entry, of_value, one_more, passes, the_body, to_pair, to_type, within}
 use Rattle.cddl_sources.specs.Sources.{AreSources, IsRuleAt}
 use Rattle.cddl_sources.specs.Spans.{IsNameSpan, IsSpan, IsWithin, Spot, body_tokens}
-use Rattle.cddl_sources.specs.States.{AreNoPairIn, ArePairIn, ArePassed, HasNoRule, HasNumber, IsEntryOf, IsFoundAfter, IsInside, IsStateAfter, IsTold, IsTypeIn, IsValueIn, LeadsIn, arrives as by_none, flattened, name_number, number_at, number_in, of_entry as by_entry, of_value as by_value, origin_at, passes as gone_by, spot_of, text_in, to_pair as by_pair, to_type as by_type}
+use Rattle.cddl_sources.specs.States.{AreNoPairIn, ArePairIn, ArePassed, HasNoRule, HasNumber, IsEntryNamed as IsNamedNumbers, IsEntryOf, IsEntryWithin as IsWithinNumbers, IsFoundAfter, IsFrom, IsStateAfter, IsTold, IsTypeIn, IsValueIn, LeadsIn, arrives as by_none, count_in, counted, flattened, named as by_name, name_number, number_at, number_in, of_entry as by_entry, of_value as by_value, origin_at, passes as gone_by, text_in, to_pair as by_pair, to_type as by_type, within as by_brackets}
 use Rattle.cddl_sources.specs.declared.piece.EntryAt.{EntryAt}
 use Rattle.cddl_sources.specs.declared.piece.PieceAt.{PieceAt}
 use Rattle.cddl_sources.specs.declared.place.Place.{Place}
 use Rattle.cddl_sources.specs.declared.place.State.{State}
 use Rattle.cddl_sources.specs.declared.sources.RuleAt.{RuleAt}
 use Rattle.cddl_sources.specs.declared.sources.Sources.{Sources}
+use Rattle.cddl_sources.specs.declared.span.Span.{Span}
 use Rattle.cddl_sources.proofs.Ending.{one_end, one_start}
 use Rattle.cddl_sources.proofs.Growing.{kept}
-use Rattle.cddl_sources.proofs.Stepping.{found_named}
 
 -- the name of a reference, by its row
 call_number : (t : Table) (n : ℕ) (q : Ref) → IsRef t n q → (k : ℕ) × (text_in (slice_get t.rows n) ≡ Some k) × (slice_get t.texts k ≡ Some (name_of q))
 call_number t n (call name ts) (part e (some_text {n = m} g) a b) = (m, ap text_in e, g)
+
+-- the part of the text where a piece stands, with the name that it is, by its number
+abbrev text_at : Table → Option ℕ → Option Text
+text_at t None = None
+text_at t (Some n) = slice_get t.texts n
+
+abbrev spot_of : Table → PieceAt → Spot
+spot_of t a = record { rule = a.rule; span = a.span; name = text_at t a.name }
 
 module _ (s : Sense) (table : Made) (x : Sources) (k : AreSources s table x) where
   -- an instance has the number of its name
@@ -174,145 +182,321 @@ module _ (s : Sense) (table : Made) (x : Sources) (k : AreSources s table x) whe
       (is.origin, ap (λ os. slice_get os m.number) k.made.origins ∙ is.there, ap Some (same_origin p v d h.0 is.origin h.1 is.named))
   type_origin p (L.Type m) h o no_type = absurd (no_some h.1)
 
+  -- what is found stands there
+
+  abbrev spot : PieceAt → Spot
+  spot a = spot_of k.made.more a
+
+  name_there_is : (o : Option Text) (m : Option ℕ) → IsNumberOf k.made.more o m → text_at k.made.more m ≡ o
+  name_there_is None m h = ap (text_at k.made.more) h
+  name_there_is (Some y) m h = ap (text_at k.made.more) h.1 ∙ h.2
+
+  abbrev stands : (a : PieceAt) → (st : IsThere k.made.more (rules_of s.tree) a) → Stands (rules_of s.tree) (IsNameOfType s k.terms k.nodes) st.piece (spot a)
+  stands a st = record { rule = st.rule; there = st.there; contained = st.contained; span = st.is.span; name = name_there_is (name_there st.piece) a.name st.is.name }
+
+  -- what stands there is found
+
+  same_span : (a b : Span) → a.first ≡ b.first → a.end ≡ b.end → a ≡ b
+  same_span a b e f = ap (λ (n : ℕ). record { first = n; end = a.end }) e ∙ ap (λ (n : ℕ). record { first = b.first; end = n }) f
+
+  same_spot : (a b : Spot) → a.rule ≡ b.rule → a.span ≡ b.span → a.name ≡ b.name → a ≡ b
+  same_spot a b e f g = ap (λ (n : ℕ). record { rule = n; span = a.span; name = a.name }) e ∙ ap (λ (z : Span). record { rule = b.rule; span = z; name = a.name }) f ∙ ap (λ (o : Option Text). record { rule = b.rule; span = b.span; name = o }) g
+
+  piece_there : (p : Piece) (at : Spot) → Stands (rules_of s.tree) (IsNameOfType s k.terms k.nodes) p at → (a : PieceAt) × Contains x.pieces.items a × (spot a ≡ at) × IsPieceAt k.made.more p a
+  piece_there p at h =
+      let a = k.made.pieces.all at.rule h.rule p h.there h.contained in
+      let first = one_start (tokens_of_piece p) a.0.span.first at.span.first a.3.span.starts h.span.starts in
+      let end = one_end (tokens_of_piece p) a.0.span.end at.span.end a.3.span.ends h.span.ends in
+      let name : text_at k.made.more a.0.name ≡ at.name = name_there_is (name_there p) a.0.name a.3.name ∙ sym h.name in
+      (a.0, a.1, same_spot (spot a.0) at a.2 (same_span a.0.span at.span first end) name, a.3)
+
+  -- the rules of a name, and how many alternatives they make
+
+  pub record AreLike (rs : List S.Rule) (xs : List RuleAt) : Type 0 where
+    pub told : (i : ℕ) (a : RuleAt) → slice_get xs i ≡ Some a → (r : S.Rule) × (slice_get rs i ≡ Some r) × IsRuleAt k.made.more r a
+    pub all : (i : ℕ) (r : S.Rule) → slice_get rs i ≡ Some r → (a : RuleAt) × (slice_get xs i ≡ Some a)
+
+  like_tail : (r : S.Rule) (rs : List S.Rule) (a : RuleAt) (xs : List RuleAt) → AreLike (r ∷ rs) (a ∷ xs) → AreLike rs xs
+  like_tail r rs a xs h = record { told = λ i b e. h.told (suc i) b e; all = λ i q e. h.all (suc i) q e }
+
+  like_drop : (i : ℕ) (rs : List S.Rule) (xs : List RuleAt) → AreLike rs xs → AreLike (drop i rs) (drop i xs)
+  like_drop zero rs xs h = h
+  like_drop (suc i) [] [] h = h
+  like_drop (suc i) [] (a ∷ xs) h = let w = h.told 0 a refl in absurd (no_some w.1)
+  like_drop (suc i) (r ∷ rs) [] h = let w = h.all 0 r refl in absurd (no_some w.1)
+  like_drop (suc i) (r ∷ rs) (a ∷ xs) h = like_drop i rs xs (like_tail r rs a xs h)
+
+  module _ (n : ℕ) (y : Text) (e : slice_get k.made.more.texts n ≡ Some y) where
+    is_named : (r : S.Rule) (a : RuleAt) → IsRuleAt k.made.more r a → a.number ≡ n → name_in r ≡ y
+    is_named r a h f = same_some (sym h.number ∙ ap (slice_get k.made.more.texts) f ∙ e)
+
+    has_number : (r : S.Rule) (a : RuleAt) → IsRuleAt k.made.more r a → name_in r ≡ y → a.number ≡ n
+    has_number r a h f = k.made.distinct a.number n y (h.number ∙ ap Some f) e
+
+    make : (rs : List S.Rule) (xs : List RuleAt) → AreLike rs xs → Make (rules_of s.tree) (IsNameOfType s k.terms k.nodes) y rs (counted n xs)
+    make [] [] h = no_rules
+    make [] (a ∷ xs) h = let w = h.told 0 a refl in absurd (no_some w.1)
+    make (r ∷ rs) [] h = let w = h.all 0 r refl in absurd (no_some w.1)
+    make (r ∷ rs) (a ∷ xs) h = by (make rs xs (like_tail r rs a xs h)) (nat_eq a.number n) refl
+      where
+        w : (q : S.Rule) × (Some r ≡ Some q) × IsRuleAt k.made.more q a
+        w = h.told 0 a refl
+
+        at : IsRuleAt k.made.more r a
+        at = subst (λ (q : S.Rule). IsRuleAt k.made.more q a) (sym (same_some w.1)) w.2
+
+        by : Make (rules_of s.tree) (IsNameOfType s k.terms k.nodes) y rs (counted n xs) → (b : Bool) → nat_eq a.number n ≡ b → Make (rules_of s.tree) (IsNameOfType s k.terms k.nodes) y (r ∷ rs) (counted n (a ∷ xs))
+        by rest true f =
+            let same : alternatives_of r + counted n xs ≡ counted n (a ∷ xs) = ap (λ (m : ℕ). m + counted n xs) (sym at.alternatives ∙ sym (ap (λ (b : Bool). if b then a.alternatives else 0) f)) in
+            subst (λ (m : ℕ). Make (rules_of s.tree) (IsNameOfType s k.terms k.nodes) y (r ∷ rs) m) same (one_more (is_named r a at (is_equal a.number n f)) rest)
+        by rest false f =
+            let none : 0 + counted n xs ≡ counted n xs = omega arith in
+            let same : counted n xs ≡ counted n (a ∷ xs) = sym (ap (λ (b : Bool). (if b then a.alternatives else 0) + counted n xs) f ∙ none) in
+            subst (λ (m : ℕ). Make (rules_of s.tree) (IsNameOfType s k.terms k.nodes) y (r ∷ rs) m) same (another (λ g. is_unequal a.number n f (has_number r a at g)) rest)
+
+    counted_so : (rs : List S.Rule) (xs : List RuleAt) (m : ℕ) → AreLike rs xs → Make (rules_of s.tree) (IsNameOfType s k.terms k.nodes) y rs m → counted n xs ≡ m
+    counted_so [] [] m h no_rules = refl
+    counted_so [] (a ∷ xs) m h d = let w = h.told 0 a refl in absurd (no_some w.1)
+    counted_so (r ∷ rs) [] m h d = let w = h.all 0 r refl in absurd (no_some w.1)
+    counted_so (r ∷ rs) (a ∷ xs) m h (one_more {k = j} f d) =
+        let w = h.told 0 a refl in
+        let at : IsRuleAt k.made.more r a = subst (λ (q : S.Rule). IsRuleAt k.made.more q a) (sym (same_some w.1)) w.2 in
+        let equal : nat_eq a.number n ≡ true = test_equal a.number n (has_number r a at f) in
+        ap (λ (b : Bool). (if b then a.alternatives else 0) + counted n xs) equal ∙ ap (λ (c : ℕ). c + counted n xs) at.alternatives ∙ ap (λ (c : ℕ). alternatives_of r + c) (counted_so rs xs j (like_tail r rs a xs h) d)
+    counted_so (r ∷ rs) (a ∷ xs) m h (another f d) =
+        let w = h.told 0 a refl in
+        let at : IsRuleAt k.made.more r a = subst (λ (q : S.Rule). IsRuleAt k.made.more q a) (sym (same_some w.1)) w.2 in
+        let other : nat_eq a.number n ≡ false = unequal_number a.number n (λ g. f (is_named r a at g)) in
+        let none : 0 + counted n xs ≡ counted n xs = omega arith in
+        ap (λ (b : Bool). (if b then a.alternatives else 0) + counted n xs) other ∙ none ∙ counted_so rs xs m (like_tail r rs a xs h) d
+
+  rules_like : AreLike (rules_of s.tree) x.rules.items
+  rules_like = record { told = k.made.rules.told; all = k.made.rules.all }
+
+  -- an entry of what was found, in brackets or by its name
+  entry_within_at : (around a : PieceAt) (j i : ℕ) → IsWithinNumbers x around j i a → IsEntryWithin (rules_of s.tree) (IsNameOfType s k.terms k.nodes) (spot around) j i (spot a)
+  entry_within_at around a j i h = by st.piece st.is.entry (stands a st)
+    where
+      st : IsThere k.made.more (rules_of s.tree) a
+      st = k.made.pieces.each a h.contained
+
+      by : (p : Piece) → MayBeIn p a.entry → Stands (rules_of s.tree) (IsNameOfType s k.terms k.nodes) p (spot a) → IsEntryWithin (rules_of s.tree) (IsNameOfType s k.terms k.nodes) (spot around) j i (spot a)
+      by (an_entry (brackets o c) l z e) g there =
+          let same : h.is.entry ≡ g.0 = same_some (sym h.is.there ∙ g.1) in
+          let alternative : l ≡ j = sym g.2.alternative ∙ ap (λ (b : EntryAt). b.alternative) (sym same) ∙ h.is.same_alternative in
+          let place : z ≡ i = sym g.2.place ∙ ap (λ (b : EntryAt). b.place) (sym same) ∙ h.is.same_place in
+          let span : around.span ≡ g.2.around.0 = same_some (sym h.is.round ∙ ap (λ (b : EntryAt). b.around) same ∙ g.2.around.1) in
+          record {
+            opening = o;
+            closing = c;
+            inner = e;
+            stands = subst (λ (w : ℕ). Stands (rules_of s.tree) (IsNameOfType s k.terms k.nodes) (an_entry (brackets o c) j w e) (spot a)) place (subst (λ (w : ℕ). Stands (rules_of s.tree) (IsNameOfType s k.terms k.nodes) (an_entry (brackets o c) w z e) (spot a)) alternative there);
+            rule = h.rule;
+            opens = ap (λ (b : Span). b.first) span ∙ g.2.around.2;
+            closes = ap (λ (b : Span). b.end) span ∙ g.2.around.3;
+          }
+      by (an_entry the_rule l z e) g there =
+          let same : h.is.entry ≡ g.0 = same_some (sym h.is.there ∙ g.1) in
+          absurd (some_none (sym h.is.round ∙ ap (λ (b : EntryAt). b.around) same ∙ g.2.around))
+      by (a_type z) g there = absurd (some_none (sym h.is.there ∙ g))
+      by (a_word w) g there = absurd (some_none (sym h.is.there ∙ g))
+      by (a_value q z) g there = absurd (some_none (sym h.is.there ∙ g))
+
+  rule_counted : (i n own : ℕ) → own < count_in n (slice_get x.rules.items i) → (at : RuleAt) × (slice_get x.rules.items i ≡ Some at) × (at.number ≡ n) × (own < at.alternatives)
+  rule_counted i n own h = by (slice_get x.rules.items i) refl h
+    where
+      by : (o : Option RuleAt) → slice_get x.rules.items i ≡ o → own < count_in n o → (at : RuleAt) × (slice_get x.rules.items i ≡ Some at) × (at.number ≡ n) × (own < at.alternatives)
+      by None e l = absurd (omega (arith, l))
+      by (Some at) e l = on (nat_eq at.number n) refl
+        where
+          on : (b : Bool) → nat_eq at.number n ≡ b → (at : RuleAt) × (slice_get x.rules.items i ≡ Some at) × (at.number ≡ n) × (own < at.alternatives)
+          on true f = (at, e, is_equal at.number n f, subst (λ (b : Bool). own < (if b then at.alternatives else 0)) f l)
+          on false f = let none : own < 0 = subst (λ (b : Bool). own < (if b then at.alternatives else 0)) f l in absurd (omega (arith, none))
+
+  entry_named_at : (around a : PieceAt) (j i : ℕ) → IsNamedNumbers x around j i a → IsEntryNamed (rules_of s.tree) (IsNameOfType s k.terms k.nodes) (spot around) j i (spot a)
+  entry_named_at around a j i h = by st.piece st.is.entry (stands a st) refl
+    where
+      st : IsThere k.made.more (rules_of s.tree) a
+      st = k.made.pieces.each a h.is.contained
+
+      at : (at : RuleAt) × (slice_get x.rules.items a.rule ≡ Some at) × (at.number ≡ h.name) × (h.own < at.alternatives)
+      at = rule_counted a.rule h.name h.own h.is_alternative.less
+
+      told : (r : S.Rule) × (slice_get (rules_of s.tree) a.rule ≡ Some r) × IsRuleAt k.made.more r at.0
+      told = k.made.rules.told a.rule at.0 at.1
+
+      same_rule : told.0 ≡ st.rule
+      same_rule = one_of (slice_get (rules_of s.tree) a.rule) told.0 st.rule told.1 st.there
+
+      rule : IsRuleAt k.made.more st.rule at.0
+      rule = subst (λ (r : S.Rule). IsRuleAt k.made.more r at.0) same_rule told.2
+
+      number : slice_get k.made.more.texts h.name ≡ Some (name_in st.rule)
+      number = ap (slice_get k.made.more.texts) (sym at.2) ∙ rule.number
+
+      by : (p : Piece) → MayBeIn p a.entry → (there : Stands (rules_of s.tree) (IsNameOfType s k.terms k.nodes) p (spot a)) → there.rule ≡ st.rule → IsEntryNamed (rules_of s.tree) (IsNameOfType s k.terms k.nodes) (spot around) j i (spot a)
+      by (an_entry the_rule l z e) g there is =
+          let same : h.is.is.entry ≡ g.0 = same_some (sym h.is.is.there ∙ g.1) in
+          let alternative : l ≡ h.own = sym g.2.alternative ∙ ap (λ (b : EntryAt). b.alternative) (sym same) ∙ h.is.is.same_alternative in
+          let place : z ≡ i = sym g.2.place ∙ ap (λ (b : EntryAt). b.place) (sym same) ∙ h.is.is.same_place in
+          let there_so : Stands (rules_of s.tree) (IsNameOfType s k.terms k.nodes) (an_entry the_rule h.own i e) (spot a) = record {
+            rule = st.rule;
+            there = st.there;
+            contained = subst (λ (w : ℕ). Contains (in_rule st.rule) (an_entry the_rule h.own w e)) place (subst (λ (w : ℕ). Contains (in_rule st.rule) (an_entry the_rule w z e)) alternative (subst (λ (r : S.Rule). Contains (in_rule r) (an_entry the_rule l z e)) is there.contained));
+            span = there.span;
+            name = there.name;
+          } in
+          record {
+            name = name_in st.rule;
+            is_name = ap (text_at k.made.more) h.is_name ∙ number;
+            own = h.own;
+            inner = e;
+            stands = there_so;
+            named = refl;
+            less = let l = at.3 in let c = rule.alternatives in omega (arith, l, c);
+            after = counted h.name (drop (a.rule + 1) x.rules.items);
+            make = make h.name (name_in st.rule) number (drop (a.rule + 1) (rules_of s.tree)) (drop (a.rule + 1) x.rules.items) (like_drop (a.rule + 1) (rules_of s.tree) x.rules.items rules_like);
+            whole = h.is_alternative.after;
+          }
+      by (an_entry (brackets o c) l z e) g there is =
+          let same : h.is.is.entry ≡ g.0 = same_some (sym h.is.is.there ∙ g.1) in
+          absurd (some_none (sym g.2.around.1 ∙ ap (λ (b : EntryAt). b.around) (sym same) ∙ h.is.is.round))
+      by (a_type z) g there is = absurd (some_none (sym h.is.is.there ∙ g))
+      by (a_word w) g there is = absurd (some_none (sym h.is.is.there ∙ g))
+      by (a_value q z) g there is = absurd (some_none (sym h.is.is.there ∙ g))
+
+  entry_at : (from : Option PieceAt) (j i : ℕ) (a : PieceAt) → IsEntryOf x from j i a → IsEntryAt (rules_of s.tree) (IsNameOfType s k.terms k.nodes) (option_map spot from) j i (spot a)
+  entry_at from j i a (by_brackets {around = b} h) = within (entry_within_at b a j i h)
+  entry_at from j i a (by_name {around = b} h) = named (entry_named_at b a j i h)
+
+  entry_within_in : (around : PieceAt) (j i : ℕ) (at : Spot) → IsEntryWithin (rules_of s.tree) (IsNameOfType s k.terms k.nodes) (spot around) j i at → (a : PieceAt) × IsWithinNumbers x around j i a
+  entry_within_in around j i at h =
+      let w = piece_there (an_entry (brackets h.opening h.closing) j i h.inner) at h.stands in
+      let g = w.3.entry in
+      let b = g.2.around in
+      let rule : w.0.rule ≡ around.rule = ap (λ (z : Spot). z.rule) w.2 ∙ h.rule in
+      (w.0, record { contained = w.1; rule = rule; is = record { entry = g.0; there = g.1; round = b.1 ∙ ap Some (same_span b.0 around.span (b.2 ∙ sym h.opens) (b.3 ∙ sym h.closes)); same_alternative = g.2.alternative; same_place = g.2.place } })
+
+  number_there : (m : Option ℕ) (y : Text) → text_at k.made.more m ≡ Some y → (n : ℕ) × (m ≡ Some n) × (slice_get k.made.more.texts n ≡ Some y)
+  number_there None y e = cc
+  number_there (Some n) y e = (n, refl, e)
+
+  entry_named_in : (around : PieceAt) (j i : ℕ) (at : Spot) → IsEntryNamed (rules_of s.tree) (IsNameOfType s k.terms k.nodes) (spot around) j i at → (a : PieceAt) × IsNamedNumbers x around j i a
+  entry_named_in around j i at h =
+      let w = piece_there (an_entry the_rule h.own i h.inner) at h.stands in
+      let a = w.0 in
+      let g = w.3.entry in
+      let n = number_there around.name h.name h.is_name in
+      let rule : a.rule ≡ at.rule = ap (λ (z : Spot). z.rule) w.2 in
+      let ra = k.made.rules.all at.rule h.stands.rule h.stands.there in
+      let told = k.made.rules.told at.rule ra.0 ra.1 in
+      let is : told.0 ≡ h.stands.rule = one_of (slice_get (rules_of s.tree) at.rule) told.0 h.stands.rule told.1 h.stands.there in
+      let its : IsRuleAt k.made.more h.stands.rule ra.0 = subst (λ (r : S.Rule). IsRuleAt k.made.more r ra.0) is told.2 in
+      let number : ra.0.number ≡ n.0 = has_number n.0 h.name n.2 h.stands.rule ra.0 its h.named in
+      let count : count_in n.0 (slice_get x.rules.items a.rule) ≡ ra.0.alternatives = ap (count_in n.0) (ap (slice_get x.rules.items) rule ∙ ra.1) ∙ ap (λ (b : Bool). if b then ra.0.alternatives else 0) (test_equal ra.0.number n.0 number) in
+      let after : counted n.0 (drop (at.rule + 1) x.rules.items) ≡ h.after = counted_so n.0 h.name n.2 (drop (at.rule + 1) (rules_of s.tree)) (drop (at.rule + 1) x.rules.items) h.after (like_drop (at.rule + 1) (rules_of s.tree) x.rules.items rules_like) h.make in (
+        a,
+        record {
+          name = n.0;
+          is_name = n.1;
+          own = h.own;
+          is_alternative = record {
+            less = let l = h.less in let c = its.alternatives in omega (arith, l, c, count);
+            after = ap (λ (r : ℕ). h.own + counted n.0 (drop (r + 1) x.rules.items)) rule ∙ ap (λ (m : ℕ). h.own + m) after ∙ h.whole;
+          };
+          is = record { contained = w.1; rule = refl; is = record { entry = g.0; there = g.1; round = g.2.around; same_alternative = g.2.alternative; same_place = g.2.place } };
+        },
+      )
+
+  around_in : (from : Option PieceAt) (around : Spot) → option_map spot from ≡ Some around → (b : PieceAt) × (from ≡ Some b) × (spot b ≡ around)
+  around_in None around e = cc
+  around_in (Some b) around e = (b, refl, same_some e)
+
+  entry_in : (from : Option PieceAt) (j i : ℕ) (at : Spot) → IsEntryAt (rules_of s.tree) (IsNameOfType s k.terms k.nodes) (option_map spot from) j i at → (a : PieceAt) × IsEntryOf x from j i a
+  entry_in from j i at h = by (option_map spot from) refl j i at h
+    where
+      by : (o : Option Spot) → option_map spot from ≡ o → (j i : ℕ) (at : Spot) → IsEntryAt (rules_of s.tree) (IsNameOfType s k.terms k.nodes) o j i at → (a : PieceAt) × IsEntryOf x from j i a
+      by o e j i at (within {around = z} h) =
+          let b = around_in from z e in
+          let w = entry_within_in b.0 j i at (subst (λ (v : Spot). IsEntryWithin (rules_of s.tree) (IsNameOfType s k.terms k.nodes) v j i at) (sym b.2) h) in
+          (w.0, subst (λ (f : Option PieceAt). IsEntryOf x f j i w.0) (sym b.1) (by_brackets w.1))
+      by o e j i at (named {around = z} h) =
+          let b = around_in from z e in
+          let w = entry_named_in b.0 j i at (subst (λ (v : Spot). IsEntryNamed (rules_of s.tree) (IsNameOfType s k.terms k.nodes) v j i at) (sym b.2) h) in
+          (w.0, subst (λ (f : Option PieceAt). IsEntryOf x f j i w.0) (sym b.1) (by_name w.1))
+
   -- The rules of a name, by the number of the name.
   module _ (n : ℕ) (y : Text) (e : slice_get k.made.more.texts n ≡ Some y) where
-    -- what is found stands there
-
-    stands_at : (from : Option PieceAt) (a : PieceAt) → HasNumber x a.rule n → IsInside from a → (st : Stands k.made.more (rules_of s.tree) a) → StandsAt (rules_of s.tree) (IsNameOfType s k.terms k.nodes) y (option_map spot_of from) st.piece (spot_of a)
-    stands_at from a h inside st =
+    stands_at : (from : Option PieceAt) (a : PieceAt) → IsFrom x n from a → (st : IsThere k.made.more (rules_of s.tree) a) → StandsAt (rules_of s.tree) (IsNameOfType s k.terms k.nodes) y (option_map spot from) st.piece (spot a)
+    stands_at None a h st =
         let r = named_rule a.rule n y h e in
         let same : st.rule ≡ r.0 = one_of (slice_get (rules_of s.tree) a.rule) st.rule r.0 st.there r.1 in
-        record {
-          rule = r.0;
-          there = r.1;
-          named = r.3;
-          contained = subst (λ (z : S.Rule). Contains (in_rule z) st.piece) same st.contained;
-          span = st.is.span;
-          within = inside;
-        }
+        (stands a st, ap name_in same ∙ r.3)
+    stands_at (Some o) a h st = (stands a st, h)
 
-    type_at : (from : Option PieceAt) (m : Link) (a : PieceAt) → IsTypeIn x n from m a → IsTypeAt (rules_of s.tree) (IsNameOfType s k.terms k.nodes) y (option_map spot_of from) m (spot_of a)
+    type_at : (from : Option PieceAt) (m : Link) (a : PieceAt) → IsTypeIn x n from m a → IsTypeAt (rules_of s.tree) (IsNameOfType s k.terms k.nodes) y (option_map spot from) m (spot a)
     type_at from m a h =
         let st = k.made.pieces.each a h.is.contained in
-        record { piece = st.piece; stands = stands_at from a h.is.named h.inside st; is = named_piece st.piece h.origin m h.there (origin_of st.piece a.origin h.origin st.is.origin h.is.same) }
+        record { piece = st.piece; stands = stands_at from a h.inside st; is = named_piece st.piece h.origin m h.there (origin_of st.piece a.origin h.origin st.is.origin h.is.same) }
 
-    value_at : (from : Option PieceAt) (key m : Link) (a : PieceAt) → IsValueIn x n from key m a → IsValueAt (rules_of s.tree) (IsNameOfType s k.terms k.nodes) y (option_map spot_of from) key m (spot_of a)
+    value_at : (from : Option PieceAt) (key m : Link) (a : PieceAt) → IsValueIn x n from key m a → IsValueAt (rules_of s.tree) (IsNameOfType s k.terms k.nodes) y (option_map spot from) key m (spot a)
     value_at from key m a h = by st.piece st.is.key t.0 t.1
       where
-        st : Stands k.made.more (rules_of s.tree) a
+        st : IsThere k.made.more (rules_of s.tree) a
         st = k.made.pieces.each a h.is.is.contained
 
-        t : (StandsAt (rules_of s.tree) (IsNameOfType s k.terms k.nodes) y (option_map spot_of from) st.piece (spot_of a)) × IsOf (rules_of s.tree) (IsNameOfType s k.terms k.nodes) st.piece m
-        t = (stands_at from a h.is.is.named h.is.inside st, named_piece st.piece h.is.origin m h.is.there (origin_of st.piece a.origin h.is.origin st.is.origin h.is.is.same))
+        t : (StandsAt (rules_of s.tree) (IsNameOfType s k.terms k.nodes) y (option_map spot from) st.piece (spot a)) × IsOf (rules_of s.tree) (IsNameOfType s k.terms k.nodes) st.piece m
+        t = (stands_at from a h.is.inside st, named_piece st.piece h.is.origin m h.is.there (origin_of st.piece a.origin h.is.origin st.is.origin h.is.is.same))
 
-        by : (p : Piece) → IsKeyOf k.made.more p a.key → StandsAt (rules_of s.tree) (IsNameOfType s k.terms k.nodes) y (option_map spot_of from) p (spot_of a) → IsOf (rules_of s.tree) (IsNameOfType s k.terms k.nodes) p m → IsValueAt (rules_of s.tree) (IsNameOfType s k.terms k.nodes) y (option_map spot_of from) key m (spot_of a)
-        by (a_value q z) g stands is = record { key_piece = q; types = z; stands = stands; is_key = named_piece q h.origin key h.there (origin_of q a.key h.origin g h.same); is = is }
-        by (a_type z) g stands is = absurd (some_none (sym h.same ∙ g))
-        by (a_word w) g stands is = absurd (some_none (sym h.same ∙ g))
-        by (an_entry o c j i e) g stands is = absurd (some_none (sym h.same ∙ g))
+        by : (p : Piece) → IsKeyOf k.made.more p a.key → StandsAt (rules_of s.tree) (IsNameOfType s k.terms k.nodes) y (option_map spot from) p (spot a) → IsOf (rules_of s.tree) (IsNameOfType s k.terms k.nodes) p m → IsValueAt (rules_of s.tree) (IsNameOfType s k.terms k.nodes) y (option_map spot from) key m (spot a)
+        by (a_value q z) g there is = record { key_piece = q; types = z; stands = there; is_key = named_piece q h.origin key h.there (origin_of q a.key h.origin g h.same); is = is }
+        by (a_type z) g there is = absurd (some_none (sym h.same ∙ g))
+        by (a_word w) g there is = absurd (some_none (sym h.same ∙ g))
+        by (an_entry o j i e) g there is = absurd (some_none (sym h.same ∙ g))
 
-    entry_at : (from : Option PieceAt) (j i : ℕ) (a : PieceAt) → IsEntryOf x n from j i a → IsEntryAt (rules_of s.tree) (IsNameOfType s k.terms k.nodes) y (option_map spot_of from) j i (spot_of a)
-    entry_at from j i a h = by st.piece st.is.entry (stands_at from a h.is.named h.is.inside st)
-      where
-        st : Stands k.made.more (rules_of s.tree) a
-        st = k.made.pieces.each a h.is.contained
-
-        by : (p : Piece) → MayBeIn p a.entry → StandsAt (rules_of s.tree) (IsNameOfType s k.terms k.nodes) y (option_map spot_of from) p (spot_of a) → IsEntryAt (rules_of s.tree) (IsNameOfType s k.terms k.nodes) y (option_map spot_of from) j i (spot_of a)
-        by (an_entry o c l z e) g stands =
-            let same : h.is.is.entry ≡ g.0 = same_some (sym h.is.is.there ∙ g.1) in
-            let alternative : l ≡ j = sym g.2.alternative ∙ ap (λ (b : EntryAt). b.alternative) (sym same) ∙ h.is.is.same_alternative in
-            let place : z ≡ i = sym g.2.place ∙ ap (λ (b : EntryAt). b.place) (sym same) ∙ h.is.is.same_place in
-            record {
-              around = spot_of h.around;
-              is_around = ap (option_map spot_of) h.is_around;
-              opening = o;
-              closing = c;
-              entry = e;
-              stands = subst (λ (w : ℕ). StandsAt (rules_of s.tree) (IsNameOfType s k.terms k.nodes) y (option_map spot_of from) (an_entry o c j w e) (spot_of a)) place (subst (λ (w : ℕ). StandsAt (rules_of s.tree) (IsNameOfType s k.terms k.nodes) y (option_map spot_of from) (an_entry o c w z e) (spot_of a)) alternative stands);
-              opens = sym h.is.is.opens ∙ ap (λ (b : EntryAt). b.around.first) same ∙ g.2.opens;
-              closes = sym h.is.is.closes ∙ ap (λ (b : EntryAt). b.around.end) same ∙ g.2.closes;
-            }
-        by (a_type z) g stands = absurd (some_none (sym h.is.is.there ∙ g))
-        by (a_word w) g stands = absurd (some_none (sym h.is.is.there ∙ g))
-        by (a_value q z) g stands = absurd (some_none (sym h.is.is.there ∙ g))
-
-    pair_at : (from : Option PieceAt) (first second : Link) (a : PieceAt) → ArePairIn x n from first second a → ArePairAt (rules_of s.tree) (IsNameOfType s k.terms k.nodes) y (option_map spot_of from) first second (spot_of a)
+    pair_at : (from : Option PieceAt) (first second : Link) (a : PieceAt) → ArePairIn x n from first second a → ArePairAt (rules_of s.tree) (IsNameOfType s k.terms k.nodes) y (option_map spot from) first second (spot a)
     pair_at from first second a (by_value v) = of_value (value_at from first second a v)
     pair_at from first second a (by_entry {k = j} {i = i} e) = of_entry (entry_at from j i a e)
 
     -- what stands there is found
 
-    within_too : (from : Option PieceAt) (at : Spot) (a : PieceAt) → at.span.first ≡ a.span.first → at.span.end ≡ a.span.end → IsWithin (option_map spot_of from) at → IsInside from a
-    within_too None at a f g h = tt
-    within_too (Some o) at a f g h = let first = h.0 in let end = h.1 in (omega (arith, f, first), omega (arith, g, end))
+    found_at : (from : Option PieceAt) (p : Piece) (at : Spot) → StandsAt (rules_of s.tree) (IsNameOfType s k.terms k.nodes) y (option_map spot from) p at → (a : PieceAt) × Contains x.pieces.items a × IsFrom x n from a × IsPieceAt k.made.more p a
+    found_at None p at h =
+        let w = piece_there p at h.0 in
+        let rule : w.0.rule ≡ at.rule = ap (λ (z : Spot). z.rule) w.2 in
+        let ra = k.made.rules.all at.rule h.0.rule h.0.there in
+        let told = k.made.rules.told at.rule ra.0 ra.1 in
+        let is : told.0 ≡ h.0.rule = one_of (slice_get (rules_of s.tree) at.rule) told.0 h.0.rule told.1 h.0.there in
+        let number : ra.0.number ≡ n = k.made.distinct ra.0.number n y (told.2.number ∙ ap Some (ap name_in is ∙ h.1)) e in
+        (w.0, w.1, record { at = ra.0; there = ap (slice_get x.rules.items) rule ∙ ra.1; same = number }, w.3)
+    found_at (Some o) p at h =
+        let w = piece_there p at h.0 in
+        (w.0, w.1, subst (λ (z : Spot). IsWithin (spot o) z) (sym w.2) h.1, w.3)
 
-    found_at : (from : Option PieceAt) (p : Piece) (at : Spot) → StandsAt (rules_of s.tree) (IsNameOfType s k.terms k.nodes) y (option_map spot_of from) p at → (a : PieceAt) × Contains x.pieces.items a × HasNumber x a.rule n × IsInside from a × IsPieceAt k.made.more p a
-    found_at from p at h =
-        let a = k.made.pieces.all at.rule h.rule p h.there h.contained in
-        let ra = k.made.rules.all at.rule h.rule h.there in
-        let w = k.made.rules.told at.rule ra.0 ra.1 in
-        let is : w.0 ≡ h.rule = one_of (slice_get (rules_of s.tree) at.rule) w.0 h.rule w.1 h.there in
-        let number : ra.0.number ≡ n = k.made.distinct ra.0.number n y (w.2.number ∙ ap Some (ap name_in is ∙ h.named)) e in (
-          a.0,
-          a.1,
-          record { at = ra.0; there = ap (slice_get x.rules.items) a.2 ∙ ra.1; same = number },
-          within_too from at a.0 (one_start (tokens_of_piece p) at.span.first a.0.span.first h.span.starts a.3.span.starts) (one_end (tokens_of_piece p) at.span.end a.0.span.end h.span.ends a.3.span.ends) h.within,
-          a.3,
-        )
-
-    type_in : (from : Option PieceAt) (m : Link) (at : Spot) → IsTypeAt (rules_of s.tree) (IsNameOfType s k.terms k.nodes) y (option_map spot_of from) m at → (a : PieceAt) × IsTypeIn x n from m a
+    type_in : (from : Option PieceAt) (m : Link) (at : Spot) → IsTypeAt (rules_of s.tree) (IsNameOfType s k.terms k.nodes) y (option_map spot from) m at → (a : PieceAt) × IsTypeIn x n from m a
     type_in from m at h =
         let w = found_at from h.piece at h.stands in
-        let o = type_origin h.piece m h.is w.0.origin w.4.origin in
-        (w.0, record { origin = o.0; there = o.1; is = record { contained = w.1; named = w.2; same = o.2 }; inside = w.3 })
+        let o = type_origin h.piece m h.is w.0.origin w.3.origin in
+        (w.0, record { origin = o.0; there = o.1; is = record { contained = w.1; same = o.2 }; inside = w.2 })
 
-    value_in : (from : Option PieceAt) (key m : Link) (at : Spot) → IsValueAt (rules_of s.tree) (IsNameOfType s k.terms k.nodes) y (option_map spot_of from) key m at → (a : PieceAt) × IsValueIn x n from key m a
+    value_in : (from : Option PieceAt) (key m : Link) (at : Spot) → IsValueAt (rules_of s.tree) (IsNameOfType s k.terms k.nodes) y (option_map spot from) key m at → (a : PieceAt) × IsValueIn x n from key m a
     value_in from key m at h =
         let p : Piece = a_value h.key_piece h.types in
         let w = found_at from p at h.stands in
-        let o = type_origin p m h.is w.0.origin w.4.origin in
-        let u = type_origin h.key_piece key h.is_key w.0.key w.4.key in
-        (w.0, record { origin = u.0; there = u.1; same = u.2; is = record { origin = o.0; there = o.1; is = record { contained = w.1; named = w.2; same = o.2 }; inside = w.3 } })
+        let o = type_origin p m h.is w.0.origin w.3.origin in
+        let u = type_origin h.key_piece key h.is_key w.0.key w.3.key in
+        (w.0, record { origin = u.0; there = u.1; same = u.2; is = record { origin = o.0; there = o.1; is = record { contained = w.1; same = o.2 }; inside = w.2 } })
 
-    around_in : (from : Option PieceAt) (around : Spot) → option_map spot_of from ≡ Some around → (b : PieceAt) × (from ≡ Some b) × (spot_of b ≡ around)
-    around_in None around e = cc
-    around_in (Some b) around e = (b, refl, same_some e)
-
-    entry_in : (from : Option PieceAt) (j i : ℕ) (at : Spot) → IsEntryAt (rules_of s.tree) (IsNameOfType s k.terms k.nodes) y (option_map spot_of from) j i at → (a : PieceAt) × IsEntryOf x n from j i a
-    entry_in from j i at h =
-        let w = found_at from (an_entry h.opening h.closing j i h.entry) at h.stands in
-        let b = around_in from h.around h.is_around in
-        let g = w.4.entry in (
-          w.0,
-          record {
-            around = b.0;
-            is_around = b.1;
-            is = record {
-              contained = w.1;
-              named = w.2;
-              inside = w.3;
-              is = record {
-                entry = g.0;
-                there = g.1;
-                opens = g.2.opens ∙ sym h.opens ∙ ap (λ (z : Spot). z.span.first) (sym b.2);
-                closes = g.2.closes ∙ sym h.closes ∙ ap (λ (z : Spot). z.span.end) (sym b.2);
-                same_alternative = g.2.alternative;
-                same_place = g.2.place;
-              };
-            };
-          },
-        )
-
-    pair_in : (from : Option PieceAt) (first second : Link) (at : Spot) → ArePairAt (rules_of s.tree) (IsNameOfType s k.terms k.nodes) y (option_map spot_of from) first second at → (a : PieceAt) × ArePairIn x n from first second a
+    pair_in : (from : Option PieceAt) (first second : Link) (at : Spot) → ArePairAt (rules_of s.tree) (IsNameOfType s k.terms k.nodes) y (option_map spot from) first second at → (a : PieceAt) × ArePairIn x n from first second a
     pair_in from first second at (of_value v) = let w = value_in from first second at v in (w.0, by_value w.1)
     pair_in from first second at (of_entry {k = j} {i = i} e) = let w = entry_in from j i at e in (w.0, by_entry w.1)
 
-    no_pair : (from : Option PieceAt) (m : Link) (ms : List Link) → AreNoPairIn x n from m ms → AreNoPair (rules_of s.tree) (IsNameOfType s k.terms k.nodes) y (option_map spot_of from) m ms
+    no_pair : (from : Option PieceAt) (m : Link) (ms : List Link) → AreNoPairIn x n from m ms → AreNoPair (rules_of s.tree) (IsNameOfType s k.terms k.nodes) y (option_map spot from) m ms
     no_pair from m [] none = tt
     no_pair from m (v ∷ ms) none = λ at h. let w = pair_in from m v at h in none w.0 w.1
 
     -- what leads from place to place leads in the text
-    leads : {from to : Option PieceAt} {ms : List Link} → LeadsIn x n from ms to → Leads (rules_of s.tree) (IsNameOfType s k.terms k.nodes) y (option_map spot_of from) ms (option_map spot_of to)
+    leads : {from to : Option PieceAt} {ms : List Link} → LeadsIn x n from ms to → Leads (rules_of s.tree) (IsNameOfType s k.terms k.nodes) y (option_map spot from) ms (option_map spot to)
     leads by_none = arrives
     leads (by_pair {from = from} {key = key} {m = m} {a = a} v l) = to_pair (pair_at from key m a v) (leads l)
     leads (by_type {from = from} {m = m} {ms = ms} {a = a} none t l) = to_type (no_pair from m ms none) (type_at from m a t) (leads l)
@@ -325,25 +509,36 @@ module _ (s : Sense) (table : Made) (x : Sources) (k : AreSources s table x) whe
       q : (q : Ref) × LeadsTo (IsNameOfType s k.terms k.nodes) (reference q) h.instance × (slice_get k.made.more.texts st.number ≡ Some (name_of q))
       q = instance_of h.instance st.number h.number
 
-      of_rule : (i : ℕ) → (w : HasNumber x i st.number) → (a : RuleAt) → slice_get x.rules.items i ≡ Some a → p.name ≡ a.name → ((r : S.Rule) → slice_get (rules_of s.tree) i ≡ Some r → name_in r ≡ name_of q.0 → IsSpan (body_tokens r) a.body → IsShown (rules_of s.tree) (IsNameOfType s k.terms k.nodes) r h.inside p.types) → IsPlace (rules_of s.tree) (IsNameOfType s k.terms k.nodes) chain p
-      of_rule i w a there name shown =
-          let r = named_rule i st.number (name_of q.0) w q.2 in
-          let same : w.at ≡ a = one_of (slice_get x.rules.items i) w.at a w.there there in
+      d : (r : S.Rule) × (slice_get (rules_of s.tree) st.rule ≡ Some r) × IsRuleAt k.made.more r h.rule.at × (name_in r ≡ name_of q.0)
+      d = named_rule st.rule st.number (name_of q.0) h.rule q.2
+
+      number : slice_get k.made.more.texts st.number ≡ Some (name_in d.0)
+      number = q.2 ∙ ap Some (sym d.3)
+
+      of_rule : (i : ℕ) (a : RuleAt) → slice_get x.rules.items i ≡ Some a → p.name ≡ a.name → ((r : S.Rule) → slice_get (rules_of s.tree) i ≡ Some r → IsSpan (body_tokens r) a.body → IsShown (rules_of s.tree) (IsNameOfType s k.terms k.nodes) (name_in d.0) r h.inside p.types) → IsPlace (rules_of s.tree) (IsNameOfType s k.terms k.nodes) chain p
+      of_rule i a there name shown =
+          let r = k.made.rules.told i a there in
           record {
             before = h.before;
             instance = h.instance;
             inside = h.inside;
             outside = h.outside;
             split = h.split;
+            defined = d.0;
+            is_defined = contains_at (rules_of s.tree) st.rule d.0 d.1;
+            is_instance = (q.0, q.1, sym d.3);
             rule = r.0;
             there = contains_at (rules_of s.tree) i r.0 r.1;
-            is_instance = (q.0, q.1, sym r.3);
             last = λ m c. no_rule m (h.last m c);
             passed = begins h.outside st.is_inside h.passed;
-            name = subst (IsNameSpan r.0) (ap (λ (b : RuleAt). b.name) same ∙ sym name) r.2.name;
-            shown = shown r.0 r.1 r.3 (subst (λ (b : RuleAt). IsSpan (body_tokens r.0) b.body) same r.2.body);
+            name = subst (IsNameSpan r.0) (sym name) r.2.name;
+            shown = shown r.0 r.1 r.2.body;
           }
 
       by : (o : Option PieceAt) → LeadsIn x st.number None h.inside o → IsTold x st o p → IsPlace (rules_of s.tree) (IsNameOfType s k.terms k.nodes) chain p
-      by None l t = of_rule st.rule h.rule t.0 t.1 t.2 (λ r there named body. the_body (leads st.number (name_in r) (q.2 ∙ ap Some (sym named)) l) (subst (IsSpan (body_tokens r)) (sym t.3) body))
-      by (Some a) l t = of_rule a.rule (found_named x st.number h.inside (Some a) l) t.0 t.1 t.2 (λ r there named body. a_piece (leads st.number (name_in r) (q.2 ∙ ap Some (sym named)) l) there t.3)
+      by None l t =
+          of_rule st.rule t.0 t.1 t.2
+          (λ r there body.
+          let same : d.0 ≡ r = one_of (slice_get (rules_of s.tree) st.rule) d.0 r d.1 there in
+          the_body (ap name_in (sym same)) (leads st.number (name_in d.0) number l) (subst (IsSpan (body_tokens r)) (sym t.3) body))
+      by (Some a) l t = of_rule a.rule t.0 t.1 t.2 (λ r there body. a_piece (leads st.number (name_in d.0) number l) there t.3)

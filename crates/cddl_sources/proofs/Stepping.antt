@@ -1,5 +1,5 @@
 -- What one link more leads to.
-use Rattle.std.proofs.Common.{◌≡◌, ◌⊎◌, ◌+◌, ◌<◌, inl, inr, ℕ, zero, suc, length, take, get_or, arith, Bool, true, false, List, [], ◌∷◌, ◌++◌, Option, Some, None, IfNone, IfSome, refl, sym, ap, subst, ◌∙◌, append_assoc}
+use Rattle.std.proofs.Common.{◌≡◌, ◌⊎◌, ◌+◌, ◌-◌, ◌<◌, inl, inr, ℕ, zero, suc, ◌≤◌, drop, length, take, get_or, arith, Bool, true, false, List, [], ◌∷◌, ◌++◌, Option, Some, None, IfNone, IfSome, slice_get, refl, sym, ap, subst, ◌∙◌, append_assoc}
 use Rattle.std.specs.List.{Contains}
 use Rattle.std.proofs.lemmas.List.{append-nil, take_more}
 use Rattle.std.proofs.lemmas.List.Elements.{Contains-append_left, Contains-push_cases}
@@ -9,9 +9,10 @@ use Rattle.table_making.specs.declared.origin.TypeOrigin.TheVariants as T
 use Rattle.table_nodes.specs.declared.nodes.TypeId.{TypeId}
 use Rattle.type_links.specs.declared.link.Link.{Link}
 use Rattle.type_links.specs.declared.link.Link.TheVariants as L
-use Rattle.cddl_sources.specs.States.{ArePairIn, ArePassed, HasNoRule, HasNumber, IsEntryIn, IsEntryOf, IsFoundAfter, IsInside, IsOfOrigin, IsStarted, IsStateAfter, IsStateOf, IsTypeIn, IsValueIn, LeadsIn, arrives, of_entry, of_value, origin_at, passes, to_pair, to_type, with_held}
+use Rattle.cddl_sources.specs.States.{ArePairIn, ArePassed, HasNoRule, HasNumber, IsAlternative, IsEntryNamed, IsEntryOf, IsEntryOfRule, IsEntryWithin, IsFoundAfter, IsFrom, IsRuleIn, IsOfOrigin, IsStarted, IsStateAfter, IsStateOf, IsTypeIn, IsValueIn, LeadsIn, arrives, count_in, counted, named, of_entry, of_value, origin_at, passes, to_pair, to_type, with_held, within}
 use Rattle.cddl_sources.specs.declared.piece.PieceAt.{PieceAt}
 use Rattle.cddl_sources.specs.declared.place.State.{State}
+use Rattle.cddl_sources.specs.declared.sources.RuleAt.{RuleAt}
 use Rattle.cddl_sources.specs.declared.sources.Sources.{Sources}
 
 module _ (x : Sources) (id : Link) where
@@ -97,36 +98,51 @@ module _ (x : Sources) (id : Link) where
 pub last_after : (x : Sources) (st : State) (to : Option PieceAt) → LeadsIn x st.number st.found (with_held st.held []) to → (ids : List Link) → IsFoundAfter x st ids → LeadsIn x st.number None ids to
 last_after x st to l ids h = subst (λ (ms : List Link). LeadsIn x st.number None ms to) (append-nil ids) (h [] to l)
 
-pair_named : (x : Sources) (n : ℕ) {from : Option PieceAt} {first second : Link} {a : PieceAt} → ArePairIn x n from first second a → HasNumber x a.rule n
-pair_named x n (of_value v) = v.is.is.named
-pair_named x n (of_entry e) = e.is.named
+from_rule : (x : Sources) (n : ℕ) (from : Option PieceAt) (a : PieceAt) → IsFrom x n from a → IfSome from (λ b. IsRuleIn x b.rule) → IsRuleIn x a.rule
+from_rule x n None a h g = (h.at, h.there)
+from_rule x n (Some o) a h g = (g.0, ap (slice_get x.rules.items) h.0 ∙ g.1)
 
--- what was found is in a rule of the name
-found_from : (x : Sources) (n : ℕ) {from to : Option PieceAt} {ms : List Link} → LeadsIn x n from ms to → IfSome from (λ a. HasNumber x a.rule n) → IfSome to (λ a. HasNumber x a.rule n)
+counted_rule : (x : Sources) (n own i : ℕ) → own < count_in n (slice_get x.rules.items i) → IsRuleIn x i
+counted_rule x n own i h = by (slice_get x.rules.items i) refl h
+  where
+    by : (o : Option RuleAt) → slice_get x.rules.items i ≡ o → own < count_in n o → IsRuleIn x i
+    by None e l = absurd (omega (arith, l))
+    by (Some at) e l = (at, e)
+
+entry_rule : (x : Sources) {from : Option PieceAt} {k i : ℕ} {a : PieceAt} → IsEntryOf x from k i a → IfSome from (λ b. IsRuleIn x b.rule) → IsRuleIn x a.rule
+entry_rule x (within h) g = (g.0, ap (slice_get x.rules.items) h.rule ∙ g.1)
+entry_rule x {a = a} (named h) g = counted_rule x h.name h.own a.rule h.is_alternative.less
+
+pair_rule : (x : Sources) (n : ℕ) {from : Option PieceAt} {first second : Link} {a : PieceAt} → ArePairIn x n from first second a → IfSome from (λ b. IsRuleIn x b.rule) → IsRuleIn x a.rule
+pair_rule x n (of_value v) g = from_rule x n _ _ v.is.inside g
+pair_rule x n (of_entry e) g = entry_rule x e g
+
+-- what was found is in a rule
+found_from : (x : Sources) (n : ℕ) {from to : Option PieceAt} {ms : List Link} → LeadsIn x n from ms to → IfSome from (λ a. IsRuleIn x a.rule) → IfSome to (λ a. IsRuleIn x a.rule)
 found_from x n arrives h = h
-found_from x n (to_pair v l) h = found_from x n l (pair_named x n v)
-found_from x n (to_type none t l) h = found_from x n l t.is.named
+found_from x n (to_pair v l) h = found_from x n l (pair_rule x n v h)
+found_from x n (to_type none t l) h = found_from x n l (from_rule x n _ _ t.inside h)
 found_from x n (passes none t l) h = found_from x n l h
 
-pub found_named : (x : Sources) (n : ℕ) (ids : List Link) (o : Option PieceAt) → LeadsIn x n None ids o → IfSome o (λ a. HasNumber x a.rule n)
-found_named x n ids o l = found_from x n l tt
+pub found_there : (x : Sources) (n : ℕ) (ids : List Link) (o : Option PieceAt) → LeadsIn x n None ids o → IfSome o (λ a. IsRuleIn x a.rule)
+found_there x n ids o l = found_from x n l tt
 
 -- what is found by origins is found by the types that have them
 
-pub any_type : (x : Sources) (n : ℕ) (from : Option PieceAt) (id : Link) (a : PieceAt) {o : TypeOrigin} → origin_at x id ≡ Some o → IsOfOrigin x n o a → IsInside from a → IsTypeIn x n from id a
+pub any_type : (x : Sources) (n : ℕ) (from : Option PieceAt) (id : Link) (a : PieceAt) {o : TypeOrigin} → origin_at x id ≡ Some o → IsOfOrigin x o a → IsFrom x n from a → IsTypeIn x n from id a
 any_type x n from id a {o = o} there is inside = record { origin = o; there = there; is = is; inside = inside }
 
-of_same : (x : Sources) (n : ℕ) (a : PieceAt) (o p : TypeOrigin) → o ≡ p → IsOfOrigin x n o a → IsOfOrigin x n p a
-of_same x n a o p e h = record { contained = h.contained; named = h.named; same = h.same ∙ ap Some e }
+pub of_same : (x : Sources) (a : PieceAt) (o p : TypeOrigin) → o ≡ p → IsOfOrigin x o a → IsOfOrigin x p a
+of_same x a o p e h = record { contained = h.contained; same = h.same ∙ ap Some e }
 
-pub no_type : (x : Sources) (n : ℕ) (from : Option PieceAt) (id : Link) (a : PieceAt) {o : TypeOrigin} → origin_at x id ≡ Some o → ((b : PieceAt) → IsOfOrigin x n o b → IsInside from b → ⊥) → IsTypeIn x n from id a → ⊥
-no_type x n from id a {o = o} there none h = none a (of_same x n a h.origin o (same_some (sym h.there ∙ there)) h.is) h.inside
+pub no_type : (x : Sources) (n : ℕ) (from : Option PieceAt) (id : Link) (a : PieceAt) {o : TypeOrigin} → origin_at x id ≡ Some o → ((b : PieceAt) → IsOfOrigin x o b → IsFrom x n from b → ⊥) → IsTypeIn x n from id a → ⊥
+no_type x n from id a {o = o} there none h = none a (of_same x a h.origin o (same_some (sym h.there ∙ there)) h.is) h.inside
 
-pub any_value : (x : Sources) (n : ℕ) (from : Option PieceAt) (key id : Link) (a : PieceAt) {k o : TypeOrigin} → origin_at x key ≡ Some k → origin_at x id ≡ Some o → IsOfOrigin x n o a → IsInside from a → a.key ≡ Some k → IsValueIn x n from key id a
+pub any_value : (x : Sources) (n : ℕ) (from : Option PieceAt) (key id : Link) (a : PieceAt) {k o : TypeOrigin} → origin_at x key ≡ Some k → origin_at x id ≡ Some o → IsOfOrigin x o a → IsFrom x n from a → a.key ≡ Some k → IsValueIn x n from key id a
 any_value x n from key id a {k = k} there is_there is inside same = record { origin = k; there = there; same = same; is = any_type x n from id a is_there is inside }
 
-pub no_value : (x : Sources) (n : ℕ) (from : Option PieceAt) (key id : Link) (a : PieceAt) {k o : TypeOrigin} → origin_at x key ≡ Some k → origin_at x id ≡ Some o → ((b : PieceAt) → IsOfOrigin x n o b → IsInside from b → b.key ≡ Some k → ⊥) → IsValueIn x n from key id a → ⊥
-no_value x n from key id a {k = k} {o = o} there is_there none h = none a (of_same x n a h.is.origin o (same_some (sym h.is.there ∙ is_there)) h.is.is) h.is.inside (h.same ∙ ap Some (same_some (sym h.there ∙ there)))
+pub no_value : (x : Sources) (n : ℕ) (from : Option PieceAt) (key id : Link) (a : PieceAt) {k o : TypeOrigin} → origin_at x key ≡ Some k → origin_at x id ≡ Some o → ((b : PieceAt) → IsOfOrigin x o b → IsFrom x n from b → b.key ≡ Some k → ⊥) → IsValueIn x n from key id a → ⊥
+no_value x n from key id a {k = k} {o = o} there is_there none h = none a (of_same x a h.is.origin o (same_some (sym h.is.there ∙ is_there)) h.is.is) h.is.inside (h.same ∙ ap Some (same_some (sym h.there ∙ there)))
 
 same_alternative : {j k : ℕ} → L.Alternative j ≡ L.Alternative k → j ≡ k
 same_alternative e = cc
@@ -134,11 +150,88 @@ same_alternative e = cc
 same_place : {j k : ℕ} → L.Entry j ≡ L.Entry k → j ≡ k
 same_place e = cc
 
-pub any_entry : (x : Sources) (n : ℕ) (from : Option PieceAt) (around : PieceAt) (k i : ℕ) (a : PieceAt) → from ≡ Some around → IsEntryIn x n from around.span k i a → IsEntryOf x n from k i a
-any_entry x n from around k i a e is = record { around = around; is_around = e; is = is }
+-- an entry of what was found before
 
-pub no_entry : (x : Sources) (n : ℕ) (from : Option PieceAt) (around : PieceAt) (k i : ℕ) (a : PieceAt) → from ≡ Some around → ((b : PieceAt) → IsEntryIn x n from around.span k i b → ⊥) → IsEntryOf x n from k i a → ⊥
-no_entry x n from around k i a e none h = none a (subst (λ (b : PieceAt). IsEntryIn x n from b.span k i a) (same_some (sym h.is_around ∙ e)) h.is)
+pub any_entry : (x : Sources) (from : Option PieceAt) (around : PieceAt) (k i : ℕ) (a : PieceAt) → from ≡ Some around → IsEntryOf x (Some around) k i a → IsEntryOf x from k i a
+any_entry x from around k i a e h = subst (λ (o : Option PieceAt). IsEntryOf x o k i a) (sym e) h
+
+pub no_entry : (x : Sources) (from : Option PieceAt) (around : PieceAt) (k i : ℕ) (a : PieceAt) → from ≡ Some around → (IsEntryWithin x around k i a → ⊥) → (IsEntryNamed x around k i a → ⊥) → IsEntryOf x from k i a → ⊥
+no_entry x from around k i a e none other (within {around = b} h) = none (subst (λ (c : PieceAt). IsEntryWithin x c k i a) (same_some e) h)
+no_entry x from around k i a e none other (named {around = b} h) = other (subst (λ (c : PieceAt). IsEntryNamed x c k i a) (same_some e) h)
+
+pub no_entry_from : (x : Sources) (from : Option PieceAt) (k i : ℕ) (a : PieceAt) → from ≡ None → IsEntryOf x from k i a → ⊥
+no_entry_from x from k i a e (within h) = cc
+no_entry_from x from k i a e (named h) = cc
+
+-- an alternative of a rule, of which there is one
+
+at_most_all : (n i : ℕ) (rs : List RuleAt) → count_in n (slice_get rs i) + counted n (drop (suc i) rs) ≤ counted n rs
+at_most_all n i [] = omega arith
+at_most_all n zero (r ∷ rs) = omega arith
+at_most_all n (suc i) (r ∷ rs) = let h = at_most_all n i rs in omega (arith, h)
+
+at_most_after : (n i j : ℕ) (rs : List RuleAt) → i < j → count_in n (slice_get rs j) + counted n (drop (suc j) rs) ≤ counted n (drop (suc i) rs)
+at_most_after n i zero rs l = absurd (omega (arith, l))
+at_most_after n i (suc j) [] l = omega arith
+at_most_after n zero (suc j) (r ∷ rs) l = at_most_all n j rs
+at_most_after n (suc i) (suc j) (r ∷ rs) l = at_most_after n i j rs (omega (arith, l))
+
+after_is : (x : Sources) (n k i own : ℕ) → IsAlternative x n k i own → own + counted n (drop (suc i) x.rules.items) ≡ k
+after_is x n k i own h = let e : i + 1 ≡ suc i = omega arith in ap (λ (j : ℕ). own + counted n (drop j x.rules.items)) (sym e) ∙ h.after
+
+pub one_alternative : (x : Sources) (n k i j a b : ℕ) → IsAlternative x n k i a → IsAlternative x n k j b → (i ≡ j) × (a ≡ b)
+one_alternative x n k i j a b h g = elim (tri i j) [ inl l ↦ absurd (apart i j a b h g l) | inr m ↦ elim m [ inl e ↦ (e, equal e) | inr l ↦ absurd (apart j i b a g h l) ] ]
+  where
+    tri : (i j : ℕ) → (i < j) ⊎ ((i ≡ j) ⊎ (j < i))
+    tri zero zero = inr (inl refl)
+    tri zero (suc j) = inl (omega arith)
+    tri (suc i) zero = inr (inr (omega arith))
+    tri (suc i) (suc j) = elim (tri i j) [ inl l ↦ inl (omega (arith, l)) | inr m ↦ elim m [ inl e ↦ inr (inl (ap suc e)) | inr l ↦ inr (inr (omega (arith, l))) ] ]
+
+    apart : (i j a b : ℕ) → IsAlternative x n k i a → IsAlternative x n k j b → i < j → ⊥
+    apart i j a b h g l =
+        let first = after_is x n k i a h in
+        let second = after_is x n k j b g in
+        let less = g.less in
+        let most = at_most_after n i j x.rules.items l in
+        omega (arith, first, second, less, most)
+
+    equal : i ≡ j → a ≡ b
+    equal e =
+        let first = after_is x n k i a h in
+        let second = ap (λ (m : ℕ). b + counted n (drop (suc m) x.rules.items)) e ∙ after_is x n k j b g in
+        omega (arith, first, second)
+
+pub no_alternative : (x : Sources) (n k i own rest : ℕ) → rest + counted n x.rules.items ≡ k → IsAlternative x n k i own → ⊥
+no_alternative x n k i own rest e h =
+    let first = after_is x n k i own h in
+    let less = h.less in
+    let most = at_most_all n i x.rules.items in
+    omega (arith, e, first, less, most)
+
+-- the rules from one on, and from the next one on
+pub counted_step : (n i : ℕ) (rs : List RuleAt) → i < length rs → counted n (drop i rs) ≡ count_in n (slice_get rs i) + counted n (drop (suc i) rs)
+counted_step n i [] l = absurd (omega (arith, l))
+counted_step n zero (r ∷ rs) l = refl
+counted_step n (suc i) (r ∷ rs) l = counted_step n i rs (omega (arith, l))
+
+-- one rule back
+pub counted_back : (n own count left k : ℕ) (rs : List RuleAt) → 0 < left → left ≤ length rs → count ≡ count_in n (slice_get rs (left - 1)) → count ≤ own → own + counted n (drop left rs) ≡ k → own - count + counted n (drop (left - 1) rs) ≡ k
+counted_back n own count left k rs some fits e less sum =
+    let next : suc (left - 1) ≡ left = omega (arith, some) in
+    let step = counted_step n (left - 1) rs (omega (arith, some, fits)) in
+    let same : counted n (drop (suc (left - 1)) rs) ≡ counted n (drop left rs) = ap (λ (i : ℕ). counted n (drop i rs)) next in
+    omega (arith, step, same, e, less, sum)
+
+pub counted_none : (n : ℕ) (rs : List RuleAt) → counted n (drop (length rs) rs) ≡ 0
+counted_none n [] = refl
+counted_none n (r ∷ rs) = counted_none n rs
+
+pub no_named : (x : Sources) (around : PieceAt) (n k i rule own : ℕ) (a : PieceAt) → around.name ≡ Some n → IsAlternative x n k rule own → ((b : PieceAt) → IsEntryOfRule x rule own i b → ⊥) → IsEntryNamed x around k i a → ⊥
+no_named x around n k i rule own a e f none h =
+    let name : h.name ≡ n = same_some (sym h.is_name ∙ e) in
+    let same = one_alternative x n k a.rule rule h.own own (subst (λ (m : ℕ). IsAlternative x m k a.rule h.own) name h.is_alternative) f in
+    none a (subst (λ (r : ℕ). IsEntryOfRule x r own i a) same.0 (subst (λ (o : ℕ). IsEntryOfRule x a.rule o i a) same.1 h.is))
 
 -- what two links lead to together, by the forms that they have
 
@@ -146,9 +239,21 @@ pub pair_value : (x : Sources) (n : ℕ) (from : Option PieceAt) (first second :
 pair_value x n from first second a e (of_value v) = v
 pair_value x n from first second a e (of_entry h) = cc
 
-pub pair_entry : (x : Sources) (n : ℕ) (from : Option PieceAt) (first second : Link) (a : PieceAt) {k i : ℕ} → first ≡ L.Alternative k → second ≡ L.Entry i → ArePairIn x n from first second a → IsEntryOf x n from k i a
+pub pair_entry : (x : Sources) (n : ℕ) (from : Option PieceAt) (first second : Link) (a : PieceAt) {k i : ℕ} → first ≡ L.Alternative k → second ≡ L.Entry i → ArePairIn x n from first second a → IsEntryOf x from k i a
 pair_entry x n from first second a {k = k} e f (of_value v) = absurd (no_some (sym (ap (origin_at x) e) ∙ v.there))
-pair_entry x n from first second a {i = i} e f (of_entry {k = l} {i = z} h) = subst (λ (j : ℕ). IsEntryOf x n from j i a) (same_alternative e) (subst (λ (j : ℕ). IsEntryOf x n from l j a) (same_place f) h)
+pair_entry x n from first second a {i = i} e f (of_entry {k = l} {i = z} h) = subst (λ (j : ℕ). IsEntryOf x from j i a) (same_alternative e) (subst (λ (j : ℕ). IsEntryOf x from l j a) (same_place f) h)
+
+pub no_pair_entry : (x : Sources) (n : ℕ) (from : Option PieceAt) (first second : Link) (a : PieceAt) {i : ℕ} → first ≡ L.Entry i → ArePairIn x n from first second a → ⊥
+no_pair_entry x n from first second a e (of_value v) = no_some (sym (ap (origin_at x) e) ∙ v.there)
+no_pair_entry x n from first second a e (of_entry h) = cc
+
+pub no_pair_type : (x : Sources) (n : ℕ) (from : Option PieceAt) (first second : Link) (a : PieceAt) {k : ℕ} {m : TypeId} → first ≡ L.Alternative k → second ≡ L.Type m → ArePairIn x n from first second a → ⊥
+no_pair_type x n from first second a e f (of_value v) = no_some (sym (ap (origin_at x) e) ∙ v.there)
+no_pair_type x n from first second a e f (of_entry h) = cc
+
+pub no_pair_alternative : (x : Sources) (n : ℕ) (from : Option PieceAt) (first second : Link) (a : PieceAt) {k j : ℕ} → first ≡ L.Alternative k → second ≡ L.Alternative j → ArePairIn x n from first second a → ⊥
+no_pair_alternative x n from first second a e f (of_value v) = no_some (sym (ap (origin_at x) e) ∙ v.there)
+no_pair_alternative x n from first second a e f (of_entry h) = cc
 
 pub some_then : {A : Type 0} (o : Option A) (P Q : A → Type 0) → ((a : A) → P a → Q a) → IfSome o P → IfSome o Q
 some_then None P Q f h = tt

@@ -4,16 +4,18 @@ use Rattle.cddl_token.specs.declared.Token.{Token}
 use Rattle.tree_nodes.specs.Syntax.Syntax as S
 use Rattle.tree_nodes.specs.declared.tree.Leaf.{Leaf}
 use Rattle.cddl_language.specs.Reading.{term_of, text_of}
+use Rattle.cddl_language.specs.Terms.{Text}
 use Rattle.check_terms.specs.Table.{Table}
 use Rattle.check_terms.specs.Trees.{IsTerm}
 use Rattle.table_making.specs.declared.origin.TypeOrigin.{TypeOrigin}
 use Rattle.table_making.specs.declared.origin.TypeOrigin.TheVariants as T
-use Rattle.cddl_sources.specs.Pieces.{Piece, a_type, a_value, a_word, an_entry, in_rule, tokens_of_piece}
+use Rattle.cddl_sources.specs.Pieces.{Around, Inner, Piece, a_type, a_value, a_word, an_entry, brackets, in_rule, name_there, the_rule, tokens_of_piece}
 use Rattle.cddl_sources.specs.Spans.{IsSpan}
 use Rattle.cddl_sources.specs.Walk.{view_found}
 use Rattle.cddl_sources.specs.declared.node.Found.{Found}
 use Rattle.cddl_sources.specs.declared.piece.EntryAt.{EntryAt}
 use Rattle.cddl_sources.specs.declared.piece.PieceAt.{PieceAt}
+use Rattle.cddl_sources.specs.declared.span.Span.{Span}
 
 pub data IsOriginOf (t : Table) : Piece → TypeOrigin → Type 0 where
   of_type : {x : S.Types} {n : ℕ} → IsTerm t n (term_of x) → IsOriginOf t (a_type x) (T.Row n)
@@ -23,34 +25,44 @@ pub data IsOriginOf (t : Table) : Piece → TypeOrigin → Type 0 where
 -- what the piece is of, which an entry is not
 pub data MayBeOf (t : Table) : Piece → Option TypeOrigin → Type 0 where
   is_of : {p : Piece} {u : TypeOrigin} → IsOriginOf t p u → MayBeOf t p (Some u)
-  no_type : {o c : Token} {k i : ℕ} {e : S.GrpEnt} → MayBeOf t (an_entry o c k i e) None
+  no_type : {a : Around} {k i : ℕ} {e : Inner} → MayBeOf t (an_entry a k i e) None
 
 -- what the key is of, where the piece is a value's type
 abbrev pub IsKeyOf : Table → Piece → Option TypeOrigin → Type 0
 IsKeyOf t (a_value k x) o = MayBeOf t k o
 IsKeyOf t (a_type x) o = o ≡ None
 IsKeyOf t (a_word w) o = o ≡ None
-IsKeyOf t (an_entry a c k i e) o = o ≡ None
+IsKeyOf t (an_entry a k i e) o = o ≡ None
+
+-- where the brackets are round a group
+abbrev pub AreRound : Around → Option Span → Type 0
+AreRound (brackets o c) m = (b : Span) × (m ≡ Some b) × (b.first ≡ o.start) × (b.end ≡ c.end)
+AreRound the_rule m = m ≡ None
 
 -- where the entry stands in its group
-pub record StandsIn (o c : Token) (k i : ℕ) (a : EntryAt) : Type 0 where
-  pub opens : a.around.first ≡ o.start
-  pub closes : a.around.end ≡ c.end
-  pub alternative : a.alternative ≡ k
-  pub place : a.place ≡ i
+pub record IsEntryIn (a : Around) (k i : ℕ) (at : EntryAt) : Type 0 where
+  pub around : AreRound a at.around
+  pub alternative : at.alternative ≡ k
+  pub place : at.place ≡ i
 
 -- the same, where the piece is an entry
 abbrev pub MayBeIn : Piece → Option EntryAt → Type 0
-MayBeIn (an_entry o c k i e) m = (a : EntryAt) × (m ≡ Some a) × StandsIn o c k i a
+MayBeIn (an_entry a k i e) m = (at : EntryAt) × (m ≡ Some at) × IsEntryIn a k i at
 MayBeIn (a_type x) m = m ≡ None
 MayBeIn (a_word w) m = m ≡ None
 MayBeIn (a_value k x) m = m ≡ None
+
+-- the number of a name, if there is one
+abbrev pub IsNumberOf : Table → Option Text → Option ℕ → Type 0
+IsNumberOf t None o = o ≡ None
+IsNumberOf t (Some y) o = (n : ℕ) × (o ≡ Some n) × (slice_get t.texts n ≡ Some y)
 
 -- It is that piece.
 pub record IsPieceAt (t : Table) (p : Piece) (a : PieceAt) : Type 0 where
   pub origin : MayBeOf t p a.origin
   pub key : IsKeyOf t p a.key
   pub entry : MayBeIn p a.entry
+  pub name : IsNumberOf t (name_there p) a.name
   pub span : IsSpan (tokens_of_piece p) a.span
 
 -- read of the node f

@@ -5,14 +5,30 @@ use Rattle.cddl_token.specs.declared.Kind.TheVariants.{Name, ParenClose, ParenOp
 use Rattle.tree_nodes.specs.Syntax.Syntax as S
 use Rattle.cddl_language.specs.Language.{TypeName, type, word}
 use Rattle.cddl_language.specs.Reading.{term_of, text_of}
+use Rattle.cddl_language.specs.Terms.{Text}
 
--- a type; a bareword that is a key; the type of the value in an entry that has this key; or an entry of the group in these brackets,
--- with so many alternatives after its own, and so many entries after it there
+-- what is round a group: brackets, or a rule of which it is the body
+pub data Around : Type 0 where
+  brackets : (opening closing : Token) → Around
+  the_rule : Around
+
+-- what an entry has behind its occurrence and its key: a type, or a group in parentheses
+pub data Inner : Type 0 where
+  of_types : S.Types → Inner
+  of_group : (opening : Token) → S.Group → (closing : Token) → Inner
+
+abbrev pub inner_of : S.GrpEnt → Inner
+inner_of (S.typed o t) = of_types t
+inner_of (S.keyed o k t) = of_types t
+inner_of (S.grouped o p g c) = of_group p g c
+
+-- a type; a bareword that is a key; the type of the value in an entry that has this key; or an entry of a group, with so many
+-- alternatives after its own, and so many entries after it there
 pub data Piece : Type 0 where
   a_type : S.Types → Piece
   a_word : Token → Piece
   a_value : (key : Piece) → S.Types → Piece
-  an_entry : (opening closing : Token) → (alternative place : ℕ) → S.GrpEnt → Piece
+  an_entry : Around → (alternative place : ℕ) → Inner → Piece
 
 -- an operand by itself, which is a type too
 abbrev pub operand : S.Type2 → Piece
@@ -24,16 +40,37 @@ key_piece (S.type_key r u a) = a_type (S.only r)
 key_piece (S.bareword n c) = a_word n
 key_piece (S.value_key v c) = operand (S.literal v)
 
--- The entries of a group in brackets, by how many alternatives come after the last of these and how many entries come after the
--- last of those.
+-- The entries of a group, by how many alternatives come after the last of these and how many entries come after the last of those.
 
-abbrev pub entries_of : Token → Token → (alternative place : ℕ) → S.GrpChoice → List Piece
-entries_of o c k i S.no_entries = []
-entries_of o c k i (S.entries es e s) = entries_of o c k (suc i) es ++ an_entry o c k i e ∷ []
+abbrev pub entries_of : Around → (alternative place : ℕ) → S.GrpChoice → List Piece
+entries_of a k i S.no_entries = []
+entries_of a k i (S.entries es e s) = entries_of a k (suc i) es ++ an_entry a k i (inner_of e) ∷ []
 
-abbrev pub entries_in : Token → Token → (alternative : ℕ) → S.Group → List Piece
-entries_in o c k (S.sole es) = entries_of o c k 0 es
-entries_in o c k (S.orelse g s es) = entries_in o c (suc k) g ++ entries_of o c k 0 es
+abbrev pub entries_in : Around → (alternative : ℕ) → S.Group → List Piece
+entries_in a k (S.sole es) = entries_of a k 0 es
+entries_in a k (S.orelse g s es) = entries_in a (suc k) g ++ entries_of a k 0 es
+
+-- The entries of a rule as a group, and how many alternatives they make. Parentheses round the whole body are the group itself.
+
+abbrev pub own_entries : S.GrpEnt → List Piece
+own_entries (S.typed o t) = an_entry the_rule 0 0 (of_types t) ∷ []
+own_entries (S.keyed o k t) = an_entry the_rule 0 0 (of_types t) ∷ []
+own_entries (S.grouped (Some o) p g c) = an_entry the_rule 0 0 (of_group p g c) ∷ []
+own_entries (S.grouped None p g c) = entries_in the_rule 0 g
+
+abbrev pub count_of : S.Group → ℕ
+count_of (S.sole es) = 1
+count_of (S.orelse g s es) = suc (count_of g)
+
+abbrev pub own_count : S.GrpEnt → ℕ
+own_count (S.typed o t) = 1
+own_count (S.keyed o k t) = 1
+own_count (S.grouped (Some o) p g c) = 1
+own_count (S.grouped None p g c) = count_of g
+
+abbrev pub alternatives_of : S.Rule → ℕ
+alternatives_of (S.type_rule n a t) = 1
+alternatives_of (S.group_rule n a e) = own_count e
 
 -- Each type with those in it, in the order of the text: a whole choice, its members, their operands, and what these have in them.
 abbrev mutual
@@ -54,7 +91,7 @@ abbrev mutual
   in_type2 (S.typename r) = operand (S.typename r) ∷ in_ref r
   in_type2 (S.parens o t c) = operand (S.parens o t c) ∷ in_types t
   in_type2 (S.map_of o g c) = operand (S.map_of o g c) ∷ in_group g
-  in_type2 (S.array_of o g c) = operand (S.array_of o g c) ∷ (entries_in o c 0 g ++ in_group g)
+  in_type2 (S.array_of o g c) = operand (S.array_of o g c) ∷ (entries_in (brackets o c) 0 g ++ in_group g)
   in_type2 (S.unwrapped u r) = operand (S.unwrapped u r) ∷ in_ref r
   in_type2 (S.choice_of a o g c) = operand (S.choice_of a o g c) ∷ in_group g
   in_type2 (S.choice_of_name a r) = operand (S.choice_of_name a r) ∷ in_ref r
@@ -82,7 +119,7 @@ abbrev mutual
   pub in_entry : S.GrpEnt → List Piece
   in_entry (S.typed o t) = in_types t
   in_entry (S.keyed o k t) = in_key k ++ (a_value (key_piece k) t ∷ in_types t)
-  in_entry (S.grouped o p g c) = entries_in p c 0 g ++ in_group g
+  in_entry (S.grouped o p g c) = entries_in (brackets p c) 0 g ++ in_group g
 
   pub in_key : S.MemberKey → List Piece
   in_key (S.type_key r u a) = in_type1 r
@@ -90,8 +127,8 @@ abbrev mutual
   in_key (S.value_key v c) = operand (S.literal v) ∷ []
 
 abbrev pub in_rule : S.Rule → List Piece
-in_rule (S.type_rule n a t) = in_types t
-in_rule (S.group_rule n a e) = in_entry e
+in_rule (S.type_rule n a t) = an_entry the_rule 0 0 (of_types t) ∷ in_types t
+in_rule (S.group_rule n a e) = own_entries e ++ in_entry e
 
 -- each with the place of its rule, from the place k on
 abbrev pub placed : ℕ → List Piece → List (ℕ × Piece)
@@ -106,16 +143,50 @@ abbrev pub name_of_piece : Piece → Option TypeName
 name_of_piece (a_type x) = Some (type (term_of x))
 name_of_piece (a_word t) = Some (word (text_of t))
 name_of_piece (a_value k x) = Some (type (term_of x))
-name_of_piece (an_entry o c k i e) = None
+name_of_piece (an_entry a k i e) = None
+
+-- The name that stands there alone as an entry, if one does. It may be that of a group.
+
+abbrev pub name_of_ref : S.Ref → Option Text
+name_of_ref (S.name t) = Some (text_of t)
+name_of_ref (S.applied o a c) = None
+
+abbrev pub name_of_type2 : S.Type2 → Option Text
+name_of_type2 (S.typename r) = name_of_ref r
+name_of_type2 (S.literal v) = None
+name_of_type2 (S.parens o t c) = None
+name_of_type2 (S.map_of o g c) = None
+name_of_type2 (S.array_of o g c) = None
+name_of_type2 (S.unwrapped u r) = None
+name_of_type2 (S.choice_of a o g c) = None
+name_of_type2 (S.choice_of_name a r) = None
+name_of_type2 (S.tagged o t c) = None
+name_of_type2 (S.tagged_by o h a p t c) = None
+name_of_type2 (S.simple_by o h c) = None
+name_of_type2 (S.hash t) = None
+
+abbrev pub name_of_type1 : S.Type1 → Option Text
+name_of_type1 (S.one x) = name_of_type2 x
+name_of_type1 (S.operation x o y) = None
+
+abbrev pub name_of_types : S.Types → Option Text
+name_of_types (S.only r) = name_of_type1 r
+name_of_types (S.or t s r) = None
+
+abbrev pub name_there : Piece → Option Text
+name_there (an_entry a k i (of_types t)) = name_of_types t
+name_there (an_entry a k i (of_group o g c)) = None
+name_there (a_type x) = None
+name_there (a_word t) = None
+name_there (a_value k x) = None
 
 -- what is told of an entry: its type, or its group in parentheses
-abbrev pub tokens_of_entry : S.GrpEnt → List S.Lexeme
-tokens_of_entry (S.typed o t) = S.flat_types t
-tokens_of_entry (S.keyed o k t) = S.flat_types t
-tokens_of_entry (S.grouped o p g c) = (ParenOpen, p) ∷ (S.flat_group g ++ (ParenClose, c) ∷ [])
+abbrev pub tokens_of_inner : Inner → List S.Lexeme
+tokens_of_inner (of_types t) = S.flat_types t
+tokens_of_inner (of_group o g c) = (ParenOpen, o) ∷ (S.flat_group g ++ (ParenClose, c) ∷ [])
 
 abbrev pub tokens_of_piece : Piece → List S.Lexeme
 tokens_of_piece (a_type x) = S.flat_types x
 tokens_of_piece (a_word t) = (Name, t) ∷ []
 tokens_of_piece (a_value k x) = S.flat_types x
-tokens_of_piece (an_entry o c k i e) = tokens_of_entry e
+tokens_of_piece (an_entry a k i e) = tokens_of_inner e

@@ -1,5 +1,5 @@
 -- Where a type of the table stands in the text, of which links led to it.
-use Rattle.std.specs.Prelude.{◌≡◌, ℕ, List, [], ◌∷◌, ◌++◌, Contains, Option, Some, None, slice_get}
+use Rattle.std.specs.Prelude.{◌≡◌, ℕ, ◌+◌, ◌<◌, List, [], ◌∷◌, ◌++◌, drop, Contains, Option, Some, None, slice_get}
 use Rattle.cddl_token.specs.declared.Token.{Token}
 use Rattle.tree_nodes.specs.Syntax.Syntax as S
 use Rattle.cddl_language.specs.Language.{TypeName, reference}
@@ -8,7 +8,7 @@ use Rattle.cddl_language.specs.Terms.{Ref, Text, name_of}
 use Rattle.table_nodes.specs.declared.nodes.TypeId.{TypeId}
 use Rattle.type_links.specs.declared.link.Link.{Link}
 use Rattle.type_links.specs.declared.link.Link.TheVariants as L
-use Rattle.cddl_sources.specs.Pieces.{Piece, a_value, an_entry, in_rule, name_of_piece, tokens_of_piece}
+use Rattle.cddl_sources.specs.Pieces.{Inner, Piece, a_value, alternatives_of, an_entry, brackets, in_rule, name_of_piece, name_there, the_rule, tokens_of_piece}
 use Rattle.cddl_sources.specs.Spans.{IsNameSpan, IsSpan, IsWithin, Spot, body_tokens}
 use Rattle.cddl_sources.specs.declared.place.Place.{Place}
 use Rattle.cddl_sources.specs.declared.span.Span.{Span}
@@ -29,14 +29,18 @@ module _ (rules : List S.Rule) (names : TypeName → TypeId → Type 0) where
   abbrev pub IsOfNoRule : Link → Type 0
   IsOfNoRule m = (r : S.Rule) → Contains rules r → IsInstanceOf (name_in r) m → ⊥
 
-  -- There stands the piece, in a rule of this name, and within another part of the text, if one is given.
-  pub record StandsAt (n : Text) (from : Option Spot) (p : Piece) (at : Spot) : Type 0 where
+  -- There stands the piece.
+  pub record Stands (p : Piece) (at : Spot) : Type 0 where
     pub rule : S.Rule
     pub there : slice_get rules at.rule ≡ Some rule
-    pub named : name_in rule ≡ n
     pub contained : Contains (in_rule rule) p
     pub span : IsSpan (tokens_of_piece p) at.span
-    pub within : IsWithin from at
+    pub name : at.name ≡ name_there p
+
+  -- the same, within another part of the text, or in a rule of this name, if none is given
+  abbrev pub StandsAt : Text → Option Spot → Piece → Spot → Type 0
+  StandsAt n None p at = (h : Stands p at) × (name_in h.rule ≡ n)
+  StandsAt n (Some o) p at = Stands p at × IsWithin o at
 
   -- the piece is of the type to which the link is
   abbrev pub IsOf : Piece → Link → Type 0
@@ -56,21 +60,45 @@ module _ (rules : List S.Rule) (names : TypeName → TypeId → Type 0) where
     pub is_key : IsOf key_piece key
     pub is : IsOf (a_value key_piece types) m
 
-  -- the same of an entry of the group whose brackets are the ends of the other part of the text
-  pub record IsEntryAt (n : Text) (from : Option Spot) (alternative place : ℕ) (at : Spot) : Type 0 where
-    pub around : Spot
-    pub is_around : from ≡ Some around
+  -- an entry of the group in the brackets that are the ends of the other part of the text
+  pub record IsEntryWithin (around : Spot) (alternative place : ℕ) (at : Spot) : Type 0 where
     pub opening : Token
     pub closing : Token
-    pub entry : S.GrpEnt
-    pub stands : StandsAt n from (an_entry opening closing alternative place entry) at
+    pub inner : Inner
+    pub stands : Stands (an_entry (brackets opening closing) alternative place inner) at
+    pub rule : at.rule ≡ around.rule
     pub opens : around.span.first ≡ opening.start
     pub closes : around.span.end ≡ closing.end
+
+  -- The rules of a name make so many alternatives.
+  pub data Make (n : Text) : List S.Rule → ℕ → Type 0 where
+    no_rules : Make n [] 0
+    one_more : {r : S.Rule} {rs : List S.Rule} {k : ℕ} → name_in r ≡ n → Make n rs k → Make n (r ∷ rs) (alternatives_of r + k)
+    another : {r : S.Rule} {rs : List S.Rule} {k : ℕ} → (name_in r ≡ n → ⊥) → Make n rs k → Make n (r ∷ rs) k
+
+  -- an entry of a rule of the name that the other part of the text is: so many alternatives come after its own in this rule and in
+  -- those of the name that come after this one
+  pub record IsEntryNamed (around : Spot) (alternative place : ℕ) (at : Spot) : Type 0 where
+    pub name : Text
+    pub is_name : around.name ≡ Some name
+    pub own : ℕ
+    pub inner : Inner
+    pub stands : Stands (an_entry the_rule own place inner) at
+    pub named : name_in stands.rule ≡ name
+    pub less : own < alternatives_of stands.rule
+    pub after : ℕ
+    pub make : Make name (drop (at.rule + 1) rules) after
+    pub whole : own + after ≡ alternative
+
+  -- one or the other of the part of the text before
+  pub data IsEntryAt : Option Spot → (alternative place : ℕ) → Spot → Type 0 where
+    within : {around : Spot} {k i : ℕ} {at : Spot} → IsEntryWithin around k i at → IsEntryAt (Some around) k i at
+    named : {around : Spot} {k i : ℕ} {at : Spot} → IsEntryNamed around k i at → IsEntryAt (Some around) k i at
 
   -- Two links lead there together: to the value's type in an entry, or to an entry.
   pub data ArePairAt (n : Text) (from : Option Spot) : Link → Link → Spot → Type 0 where
     of_value : {key m : Link} {at : Spot} → IsValueAt n from key m at → ArePairAt n from key m at
-    of_entry : {k i : ℕ} {at : Spot} → IsEntryAt n from k i at → ArePairAt n from (L.Alternative k) (L.Entry i) at
+    of_entry : {k i : ℕ} {at : Spot} → IsEntryAt from k i at → ArePairAt n from (L.Alternative k) (L.Entry i) at
 
   -- this link and the next one lead nowhere together
   abbrev pub AreNoPair : Text → Option Spot → Link → List Link → Type 0
@@ -86,28 +114,30 @@ module _ (rules : List S.Rule) (names : TypeName → TypeId → Type 0) where
     to_type : {from to : Option Spot} {m : Link} {ms : List Link} {at : Spot} → AreNoPair n from m ms → IsTypeAt n from m at → Leads n (Some at) ms to → Leads n from (m ∷ ms) to
     passes : {from to : Option Spot} {m : Link} {ms : List Link} → AreNoPair n from m ms → ((at : Spot) → IsTypeAt n from m at → ⊥) → Leads n from ms to → Leads n from (m ∷ ms) to
 
-  -- What the links lead to, in the rule; or where they lead to nothing in rules of its name, all of the rule's body.
-  pub data IsShown (r : S.Rule) (inside : List Link) (s : Span) : Type 0 where
-    a_piece : {at : Spot} → Leads (name_in r) None inside (Some at) → slice_get rules at.rule ≡ Some r → s ≡ at.span → IsShown r inside s
-    the_body : Leads (name_in r) None inside None → IsSpan (body_tokens r) s → IsShown r inside s
+  -- What the links lead to, in the rule; or where they lead to nothing in rules of the name, all of the body of one of these.
+  pub data IsShown (n : Text) (r : S.Rule) (inside : List Link) (s : Span) : Type 0 where
+    a_piece : {at : Spot} → Leads n None inside (Some at) → slice_get rules at.rule ≡ Some r → s ≡ at.span → IsShown n r inside s
+    the_body : name_in r ≡ n → Leads n None inside None → IsSpan (body_tokens r) s → IsShown n r inside s
 
   -- the first of these, if there is any, is to an instance
   abbrev pub BeginsWithInstance : List Link → Type 0
   BeginsWithInstance [] = Unit {0}
   BeginsWithInstance (m ∷ ms) = (q : Ref) × LeadsTo names (reference q) m
 
-  -- The rule is one of the name of the last of the types that are instances of rules of the text. Of those after that what counts
-  -- comes before the next instance, which is of the prelude.
+  -- What counts are the links from the last that is to an instance of a rule of the text to the next instance, which is of the
+  -- prelude.
   pub record IsPlace (chain : List Link) (p : Place) : Type 0 where
     pub before : List Link
     pub instance : Link
     pub inside : List Link
     pub outside : List Link
     pub split : chain ≡ before ++ instance ∷ (inside ++ outside)
+    pub defined : S.Rule
+    pub is_defined : Contains rules defined
+    pub is_instance : IsInstanceOf (name_in defined) instance
     pub rule : S.Rule
     pub there : Contains rules rule
-    pub is_instance : IsInstanceOf (name_in rule) instance
     pub last : (m : Link) → Contains (inside ++ outside) m → IsOfNoRule m
     pub passed : BeginsWithInstance outside
     pub name : IsNameSpan rule p.name
-    pub shown : IsShown rule inside p.types
+    pub shown : IsShown (name_in defined) rule inside p.types

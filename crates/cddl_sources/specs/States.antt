@@ -1,12 +1,11 @@
 -- What links have led to, by numbers.
-use Rattle.std.specs.Prelude.{◌≡◌, ℕ, Bool, true, false, List, [], ◌∷◌, ◌++◌, Contains, Option, Some, None, option_map, slice_get}
+use Rattle.std.specs.Prelude.{◌≡◌, ℕ, ◌+◌, ◌<◌, ◌≤◌, nat_eq, if◌then◌else◌, Bool, true, false, List, [], ◌∷◌, ◌++◌, drop, Contains, Option, Some, None, slice_get}
 use Rattle.check_terms.specs.declared.row.Row.{Row}
 use Rattle.check_instances.specs.declared.closed.closed.Meaning.{Meaning}
 use Rattle.table_making.specs.declared.origin.TypeOrigin.{TypeOrigin}
 use Rattle.table_making.specs.declared.origin.TypeOrigin.TheVariants as T
 use Rattle.type_links.specs.declared.link.Link.{Link}
 use Rattle.type_links.specs.declared.link.Link.TheVariants as L
-use Rattle.cddl_sources.specs.Spans.{IsWithin, Spot}
 use Rattle.cddl_sources.specs.declared.piece.EntryAt.{EntryAt}
 use Rattle.cddl_sources.specs.declared.piece.PieceAt.{PieceAt}
 use Rattle.cddl_sources.specs.declared.place.Place.{Place}
@@ -53,25 +52,30 @@ pub record HasNumber (x : Sources) (i n : ℕ) : Type 0 where
 abbrev pub HasNoRule : Sources → Link → Type 0
 HasNoRule x m = (n i : ℕ) → number_at x m ≡ Some n → HasNumber x i n → ⊥
 
--- a place that is of this origin, in a rule with this number
-pub record IsOfOrigin (x : Sources) (n : ℕ) (o : TypeOrigin) (a : PieceAt) : Type 0 where
+-- there is a rule at this place
+abbrev pub IsRuleIn : Sources → ℕ → Type 0
+IsRuleIn x i = (a : RuleAt) × (slice_get x.rules.items i ≡ Some a)
+
+-- a place that is of this origin
+pub record IsOfOrigin (x : Sources) (o : TypeOrigin) (a : PieceAt) : Type 0 where
   pub contained : Contains x.pieces.items a
-  pub named : HasNumber x a.rule n
   pub same : a.origin ≡ Some o
 
-abbrev pub spot_of : PieceAt → Spot
-spot_of a = record { rule = a.rule; span = a.span }
+-- it lies within the other
+abbrev pub IsInside : PieceAt → PieceAt → Type 0
+IsInside o a = (a.rule ≡ o.rule) × (o.span.first ≤ a.span.first) × (a.span.end ≤ o.span.end)
 
--- it lies within what was found before, if something was
-abbrev pub IsInside : Option PieceAt → PieceAt → Type 0
-IsInside from a = IsWithin (option_map spot_of from) (spot_of a)
+-- it lies within what was found before, or in a rule with this number, if nothing was
+abbrev pub IsFrom : Sources → ℕ → Option PieceAt → PieceAt → Type 0
+IsFrom x n None a = HasNumber x a.rule n
+IsFrom x n (Some o) a = IsInside o a
 
 -- it is of the type to which the link is
 pub record IsTypeIn (x : Sources) (n : ℕ) (from : Option PieceAt) (m : Link) (a : PieceAt) : Type 0 where
   pub origin : TypeOrigin
   pub there : origin_at x m ≡ Some origin
-  pub is : IsOfOrigin x n origin a
-  pub inside : IsInside from a
+  pub is : IsOfOrigin x origin a
+  pub inside : IsFrom x n from a
 
 -- it is of the second type, the value of an entry whose key is of the first
 pub record IsValueIn (x : Sources) (n : ℕ) (from : Option PieceAt) (key m : Link) (a : PieceAt) : Type 0 where
@@ -80,32 +84,63 @@ pub record IsValueIn (x : Sources) (n : ℕ) (from : Option PieceAt) (key m : Li
   pub same : a.key ≡ Some origin
   pub is : IsTypeIn x n from m a
 
--- it is an entry in the brackets that are the ends of this part of the text
-pub record IsEntryWith (around : Span) (alternative place : ℕ) (a : PieceAt) : Type 0 where
+-- the entry has this round its group, and so many alternatives and entries after it
+pub record IsPlacedIn (around : Option Span) (alternative place : ℕ) (e : Option EntryAt) : Type 0 where
   pub entry : EntryAt
-  pub there : a.entry ≡ Some entry
-  pub opens : entry.around.first ≡ around.first
-  pub closes : entry.around.end ≡ around.end
+  pub there : e ≡ Some entry
+  pub round : entry.around ≡ around
   pub same_alternative : entry.alternative ≡ alternative
   pub same_place : entry.place ≡ place
 
--- the same, in a rule with this number, and within what was found before
-pub record IsEntryIn (x : Sources) (n : ℕ) (from : Option PieceAt) (around : Span) (alternative place : ℕ) (a : PieceAt) : Type 0 where
+-- it is an entry in the rule at the place i, of the group with this round it
+pub record IsEntryThere (x : Sources) (i : ℕ) (around : Option Span) (alternative place : ℕ) (a : PieceAt) : Type 0 where
   pub contained : Contains x.pieces.items a
-  pub named : HasNumber x a.rule n
-  pub inside : IsInside from a
-  pub is : IsEntryWith around alternative place a
+  pub rule : a.rule ≡ i
+  pub is : IsPlacedIn around alternative place a.entry
 
--- it is an entry in the brackets that are the ends of what was found before
-pub record IsEntryOf (x : Sources) (n : ℕ) (from : Option PieceAt) (alternative place : ℕ) (a : PieceAt) : Type 0 where
-  pub around : PieceAt
-  pub is_around : from ≡ Some around
-  pub is : IsEntryIn x n from around.span alternative place a
+-- it is an entry of the group in the brackets that are the ends of the other
+abbrev pub IsEntryWithin : Sources → PieceAt → (alternative place : ℕ) → PieceAt → Type 0
+IsEntryWithin x around k i a = IsEntryThere x around.rule (Some around.span) k i a
+
+-- it is an entry of the rule at the place i
+abbrev pub IsEntryOfRule : Sources → ℕ → (own place : ℕ) → PieceAt → Type 0
+IsEntryOfRule x i own place a = IsEntryThere x i None own place a
+
+-- How many alternatives a rule makes, if it has this number, and how many all rules with the number do.
+
+abbrev pub count_of : ℕ → RuleAt → ℕ
+count_of n r = if nat_eq r.number n then r.alternatives else 0
+
+abbrev pub count_in : ℕ → Option RuleAt → ℕ
+count_in n None = 0
+count_in n (Some r) = count_of n r
+
+abbrev pub counted : ℕ → List RuleAt → ℕ
+counted n [] = 0
+counted n (r ∷ rs) = count_of n r + counted n rs
+
+-- The rule at the place i has an alternative with so many after it there, and so many after it in all rules with this number.
+pub record IsAlternative (x : Sources) (n alternative i own : ℕ) : Type 0 where
+  pub less : own < count_in n (slice_get x.rules.items i)
+  pub after : own + counted n (drop (i + 1) x.rules.items) ≡ alternative
+
+-- it is an entry of a rule of the name that the other is
+pub record IsEntryNamed (x : Sources) (around : PieceAt) (alternative place : ℕ) (a : PieceAt) : Type 0 where
+  pub name : ℕ
+  pub is_name : around.name ≡ Some name
+  pub own : ℕ
+  pub is_alternative : IsAlternative x name alternative a.rule own
+  pub is : IsEntryOfRule x a.rule own place a
+
+-- one or the other of what was found before
+pub data IsEntryOf (x : Sources) : Option PieceAt → (alternative place : ℕ) → PieceAt → Type 0 where
+  within : {around : PieceAt} {k i : ℕ} {a : PieceAt} → IsEntryWithin x around k i a → IsEntryOf x (Some around) k i a
+  named : {around : PieceAt} {k i : ℕ} {a : PieceAt} → IsEntryNamed x around k i a → IsEntryOf x (Some around) k i a
 
 -- two links lead to it together
 pub data ArePairIn (x : Sources) (n : ℕ) (from : Option PieceAt) : Link → Link → PieceAt → Type 0 where
   of_value : {key m : Link} {a : PieceAt} → IsValueIn x n from key m a → ArePairIn x n from key m a
-  of_entry : {k i : ℕ} {a : PieceAt} → IsEntryOf x n from k i a → ArePairIn x n from (L.Alternative k) (L.Entry i) a
+  of_entry : {k i : ℕ} {a : PieceAt} → IsEntryOf x from k i a → ArePairIn x n from (L.Alternative k) (L.Entry i) a
 
 abbrev pub AreNoPairIn : Sources → ℕ → Option PieceAt → Link → List Link → Type 0
 AreNoPairIn x n from m [] = Unit {0}

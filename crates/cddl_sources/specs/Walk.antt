@@ -8,12 +8,23 @@ use Rattle.tree_nodes.specs.declared.tree.Entry.{Entry}
 use Rattle.tree_nodes.specs.declared.tree.Further.{Further}
 use Rattle.tree_nodes.specs.declared.tree.GrpChoice.{GrpChoice}
 use Rattle.tree_nodes.specs.declared.tree.GrpEnt.TheViews.{out-GrpChoice}
-use Rattle.tree_nodes.specs.View.{view_grpent, view_key, view_type1, view_type2, view_types, view_value}
-use Rattle.cddl_sources.specs.declared.node.Brackets.{Brackets}
+use Rattle.tree_nodes.specs.View.{view_group, view_grpent, view_key, view_type1, view_type2, view_types, view_value}
+use Rattle.cddl_sources.specs.declared.node.AroundNode.{AroundNode}
+use Rattle.cddl_sources.specs.declared.node.AroundNode.TheVariants as AroundV
+use Rattle.cddl_sources.specs.declared.node.InnerNode.{InnerNode}
+use Rattle.cddl_sources.specs.declared.node.InnerNode.TheVariants as InnerV
 use Rattle.cddl_sources.specs.declared.node.Found.{Found}
 use Rattle.cddl_sources.specs.declared.node.Node.{Node}
 use Rattle.cddl_sources.specs.declared.node.Node.TheVariants as NodeV
-use Rattle.cddl_sources.specs.Pieces.{Piece, a_type, a_value, a_word, an_entry, in_entry, in_type1, key_piece, operand, placed}
+use Rattle.cddl_sources.specs.Pieces.{Around, Inner, Piece, a_type, a_value, a_word, an_entry, brackets, in_entry, in_type1, inner_of, key_piece, of_group, of_types, operand, placed, the_rule}
+
+abbrev pub view_around : (Leaf → Token) → AroundNode → Around
+view_around read (AroundV.Brackets o c) = brackets (read o) (read c)
+view_around read AroundV.Rule = the_rule
+
+abbrev pub view_inner : (Leaf → Token) → InnerNode → Inner
+view_inner read (InnerV.Types t) = of_types (view_types read t.now)
+view_inner read (InnerV.Group o g c) = of_group (read o) (view_group read g.now) (read c)
 
 abbrev pub view_node : (Leaf → Token) → Node → Piece
 view_node read (NodeV.Choice t) = a_type (view_types read t.now)
@@ -22,7 +33,7 @@ view_node read (NodeV.Operand t) = operand (view_type2 read t.now)
 view_node read (NodeV.Literal v) = operand (S.literal (view_value read v))
 view_node read (NodeV.Word l) = a_word (read l)
 view_node read (NodeV.Value k t) = a_value (key_piece (view_key read k.now)) (view_types read t.now)
-view_node read (NodeV.Entry e) = an_entry (read e.brackets.opening) (read e.brackets.closing) e.alternative e.place (view_grpent read e.entry.now)
+view_node read (NodeV.Entry e) = an_entry (view_around read e.around) e.alternative e.place (view_inner read e.inner)
 
 -- with the place of its rule
 abbrev pub view_found : (Leaf → Token) → Found → ℕ × Piece
@@ -45,10 +56,10 @@ choice_pieces read c = flat_map (entry_pieces read) (out-GrpChoice c).entries.it
 
 -- The entries of a list that are left, and of further choices that are left, with what comes after each in its list.
 
-abbrev pub listed_entries : (Leaf → Token) → Brackets → (alternative : ℕ) → List Entry → List Piece
-listed_entries read b k [] = []
-listed_entries read b k (e ∷ es) = an_entry (read b.opening) (read b.closing) k (length es) (view_grpent read e.grpent) ∷ listed_entries read b k es
+abbrev pub listed_entries : (Leaf → Token) → Around → (alternative : ℕ) → List Entry → List Piece
+listed_entries read a k [] = []
+listed_entries read a k (e ∷ es) = an_entry a k (length es) (inner_of (view_grpent read e.grpent)) ∷ listed_entries read a k es
 
-abbrev pub listed_choices : (Leaf → Token) → Brackets → List GrpChoice → List Piece
-listed_choices read b [] = []
-listed_choices read b (c ∷ cs) = listed_entries read b (length cs) (out-GrpChoice c).entries.items ++ listed_choices read b cs
+abbrev pub listed_choices : (Leaf → Token) → Around → List GrpChoice → List Piece
+listed_choices read a [] = []
+listed_choices read a (c ∷ cs) = listed_entries read a (length cs) (out-GrpChoice c).entries.items ++ listed_choices read a cs

@@ -3,6 +3,7 @@
 
 mod copies;
 mod entries;
+mod names;
 mod node;
 mod origin;
 mod piece;

@@ -2,29 +2,39 @@
 
 ghost use Rattle.std.specs.Prelude.{◌≡◌};
 ghost use Rattle.cddl_token.specs.declared.Token.{Token};
-ghost use Rattle.tree_nodes.specs.View.{view_key};
+ghost use Rattle.tree_nodes.specs.View.{view_grpent, view_key};
 ghost use Rattle.tree_nodes.specs.declared.tree.Leaf.{Leaf as ALeaf};
-ghost use Rattle.cddl_sources.specs.Pieces.{key_piece};
-ghost use Rattle.cddl_sources.specs.Walk.{view_node};
+ghost use Rattle.cddl_sources.specs.Pieces.{inner_of, key_piece};
+ghost use Rattle.cddl_sources.specs.Walk.{view_inner, view_node};
 
-use tree_nodes::{GrpEnt, Leaf, MemberKey, Type1, Type2, Types, Value};
+use tree_nodes::{Group, GrpEnt, Leaf, MemberKey, Type1, Type2, Types, Value};
 
-// The tokens round a group.
+// What is round a group.
 #[derive(Clone, Copy)]
-pub(crate) struct Brackets {
-    pub(crate) opening: Leaf,
-    pub(crate) closing: Leaf,
+pub(crate) enum AroundNode {
+    /// The opening and the closing bracket.
+    Brackets(Leaf, Leaf),
+    /// A rule of which it is the body.
+    Rule,
 }
 
-// An entry of a group in brackets.
+// What an entry has behind its occurrence and its key.
+#[derive(Clone, Copy)]
+pub(crate) enum InnerNode<'t> {
+    Types(&'t Types),
+    /// A group in these parentheses.
+    Group(Leaf, &'t Group, Leaf),
+}
+
+// An entry of a group.
 #[derive(Clone, Copy)]
 pub(crate) struct EntryNode<'t> {
-    pub(crate) brackets: Brackets,
+    pub(crate) around: AroundNode,
     // So many alternatives come after its own.
     pub(crate) alternative: usize,
     // So many entries come after it in its alternative.
     pub(crate) place: usize,
-    pub(crate) entry: &'t GrpEnt,
+    pub(crate) inner: InnerNode<'t>,
 }
 
 // A node of the tree that is a type, a word that is a key, or an entry.
@@ -41,7 +51,7 @@ pub(crate) enum Node<'t> {
     Word(Leaf),
     /// The type of the value in an entry that has this key.
     Value(&'t MemberKey, &'t Types),
-    /// An entry of an array, or of a group in parentheses.
+    /// An entry of an array, of a group in parentheses, or of a rule as a group.
     Entry(EntryNode<'t>),
 }
 
@@ -60,5 +70,21 @@ pub(crate) fn key_node(key: &MemberKey) -> Node<'_>
         MemberKey::TypeKey { type1, .. } => Node::Operation(type1),
         MemberKey::Bareword { name, .. } => Node::Word(*name),
         MemberKey::ValueKey { value, .. } => Node::Literal(*value),
+    }
+}
+
+// What is in an entry.
+pub(crate) fn inner_node(entry: &GrpEnt) -> InnerNode<'_>
+    ensures { (read : ALeaf → Token) → view_inner read result ≡ inner_of (view_grpent read entry.now) }
+{
+    match entry {
+        GrpEnt::Typed { types, .. } => InnerNode::Types(types),
+        GrpEnt::Keyed { types, .. } => InnerNode::Types(types),
+        GrpEnt::Grouped {
+            opening,
+            group,
+            closing,
+            ..
+        } => InnerNode::Group(*opening, group, *closing),
     }
 }

@@ -7,12 +7,14 @@ ghost use Rattle.cddl_language.specs.Terms.{Term, typed};
 ghost use Rattle.check_terms.specs.Table.{Grows, Holds, node, nothing};
 ghost use Rattle.check_terms.specs.Trees.{IsEntry, IsTerm, literal_tree};
 ghost use Rattle.tree_nodes.specs.View.{token_of, view_type1, view_types, view_value};
-ghost use Rattle.cddl_sources.specs.Origins.{AreRead, IsKeyOf, MayBeIn, MayBeOf};
-ghost use Rattle.cddl_sources.specs.Walk.{view_node};
+ghost use Rattle.cddl_sources.specs.Origins.{AreRead, AreRound, IsKeyOf, IsNumberOf, MayBeIn, MayBeOf};
+ghost use Rattle.cddl_sources.specs.Pieces.{name_there};
+ghost use Rattle.cddl_sources.specs.Walk.{view_around, view_node};
 
-use crate::node::{Found, Node, key_node};
+use crate::names::lone_name;
+use crate::node::{AroundNode, EntryNode, Found, InnerNode, Node, key_node};
 use crate::piece::{EntryAt, PieceAt};
-use crate::span::{brackets_span, node_span};
+use crate::span::{Span, brackets_span, node_span};
 use check_reading::reader::{read_operand, read_operation, read_type_entry};
 use check_terms::laws::growing_keeps;
 use check_terms::{Form, NoRoom, Terms};
@@ -36,11 +38,13 @@ pub(crate) fn pieces_of<'s>(
     for node in found {
         let origin = node_origin(terms, tree, node.node)?;
         let key = key_origin(terms, tree, node.node)?;
+        let name = node_name(terms, tree, node.node)?;
         let piece = PieceAt {
             rule: node.rule,
             origin,
             key,
             entry: entry_at(tree, node.node),
+            name,
             span: node_span(tree, node.node),
         };
         push(&mut pieces, piece)?;
@@ -83,7 +87,7 @@ fn entry_at(tree: &Tree<'_>, node: Node<'_>) -> Option<EntryAt>
 {
     match node {
         Node::Entry(entry) => Some(EntryAt {
-            around: brackets_span(tree, entry.brackets),
+            around: around_span(tree, entry.around),
             alternative: entry.alternative,
             place: entry.place,
         }),
@@ -93,6 +97,40 @@ fn entry_at(tree: &Tree<'_>, node: Node<'_>) -> Option<EntryAt>
         Node::Literal(_) => None,
         Node::Word(_) => None,
         Node::Value(_, _) => None,
+    }
+}
+
+// The brackets round a group, if there are some.
+fn around_span(tree: &Tree<'_>, around: AroundNode) -> Option<Span>
+    ensures { AreRound (view_around (token_of tree.now) around) result }
+{
+    match around {
+        AroundNode::Brackets(opening, closing) => Some(brackets_span(tree, opening, closing)),
+        AroundNode::Rule => None,
+    }
+}
+
+// The number of the name that an entry is, if it is one alone.
+fn node_name<'s>(
+    terms: &mut Terms<'s>,
+    tree: &Tree<'s>,
+    node: Node<'_>,
+) -> Result<Option<u32>, NoRoom>
+    ensures grows { Grows terms.old terms.new }
+    ensures name { IfOk result (λ o. IsNumberOf terms.new (name_there (view_node (token_of tree.now) node.entry)) o) }
+{
+    let Node::Entry(
+        EntryNode {
+            inner: InnerNode::Types(types),
+            ..
+        },
+    ) = node
+    else {
+        return Ok(None);
+    };
+    match lone_name(types) {
+        Some(leaf) => Ok(Some(terms.add_text(text_at(tree, leaf))?)),
+        None => Ok(None),
     }
 }
 

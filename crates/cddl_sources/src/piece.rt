@@ -6,8 +6,8 @@ use table_making::TypeOrigin;
 // Where an entry of a group stands.
 #[derive(Clone, Copy)]
 pub(crate) struct EntryAt {
-    // The group, from its opening to its closing bracket.
-    pub(crate) around: Span,
+    // The group, from its opening to its closing bracket; nothing where it is the body of a rule.
+    pub(crate) around: Option<Span>,
     // So many alternatives come after its own.
     pub(crate) alternative: usize,
     // So many entries come after it in its alternative.
@@ -25,5 +25,7 @@ pub(crate) struct PieceAt {
     pub(crate) key: Option<TypeOrigin>,
     // Where it stands in its group, where it is an entry.
     pub(crate) entry: Option<EntryAt>,
+    // The number of the name that it is, where it is an entry and one name alone.
+    pub(crate) name: Option<u32>,
     pub(crate) span: Span,
 }

@@ -8,10 +8,10 @@ ghost use Rattle.table_nodes.specs.declared.table.Table.{Table};
 ghost use Rattle.type_links.specs.declared.link.Link.{Link as ALink};
 ghost use Rattle.cddl_sources.specs.Places.{IsOfNoRule, IsPlace};
 ghost use Rattle.cddl_sources.specs.Sources.{AreSources};
-ghost use Rattle.cddl_sources.specs.States.{AreNoPairIn, ArePairIn, HasNoRule, HasNumber, IsEntryIn, IsEntryOf, IsEntryWith, IsFoundAfter, IsInside, IsOfOrigin, IsStarted, IsStateAfter, IsStateOf, IsTold, IsTypeIn, IsValueIn, LeadsIn, number_at, origin_at};
+ghost use Rattle.cddl_sources.specs.States.{AreNoPairIn, ArePairIn, HasNoRule, HasNumber, IsAlternative, IsEntryNamed, IsEntryOf, IsEntryThere, IsFoundAfter, IsFrom, IsInside, IsOfOrigin, IsPlacedIn, IsRuleIn, IsStarted, IsStateAfter, IsStateOf, IsTold, IsTypeIn, IsValueIn, LeadsIn, count_in, number_at, origin_at};
 ghost use Rattle.cddl_sources.specs.declared.piece.PieceAt.{PieceAt as Piece};
 
-use crate::piece::PieceAt;
+use crate::piece::{EntryAt, PieceAt};
 use crate::sources::Sources;
 use crate::span::Span;
 use table_making::TypeOrigin;
@@ -25,6 +25,14 @@ pub struct Place {
     /// The type. Where none of the types that led to it stands in the rule as it is written there, it is all that the rule has
     /// after its sign: so in an instance of a generic rule, where an argument is in the place of a parameter.
     pub types: Span,
+}
+
+// An alternative of a rule as a group, with so many after it there.
+#[derive(Clone, Copy)]
+pub(crate) struct Alternative {
+    // The place of the rule.
+    pub(crate) rule: usize,
+    pub(crate) own: usize,
 }
 
 // What the links so far have led to.
@@ -50,8 +58,9 @@ impl Sources {
     /// The rule is the one of which the last is an instance that is an instance of a rule of the text, so a name of the prelude
     /// stands where it is asked for. From there on each type narrows it: to the first place in the rules of that name that is of
     /// this type, within the place of the one found before. Where the key of an entry comes right before the type of its value, it
-    /// is that entry's. An alternative of a group and an entry of it narrow it to this entry, where the place found before is that of
-    /// the array or of the parentheses round the group. Nothing is told where none is an instance of a rule of the text.
+    /// is that entry's. An alternative of a group and an entry of it lead to this entry, where the place found before is that of the
+    /// array or of the parentheses round the group, or is a name that is an entry by itself: then it stands in the rules of that
+    /// name. Nothing is told where none is an instance of a rule of the text.
     ///
     /// It takes time in proportion to the types and the entries in the text for each of these.
     pub fn place(&self, chain: &[Link]) -> Option<Place>
@@ -71,7 +80,7 @@ impl Sources {
     // The place that a state tells, with what was found last.
     fn told(&self, state: State, found: Option<PieceAt>) -> Option<Place>
         ensures some { IfSome result (λ p. IsTold self.now state found p) }
-        ensures none { IfNone result (HasNumber self.now state.rule state.number → IfSome found (λ f. HasNumber self.now f.rule state.number) → ⊥) }
+        ensures none { IfNone result (IsRuleIn self.now state.rule → IfSome found (λ f. IsRuleIn self.now f.rule) → ⊥) }
     {
         match found {
             Some(piece) => {
@@ -264,7 +273,7 @@ impl Sources {
         ensures none { IfNone result ((a : Piece) → ArePairIn self.now number found (Link.Alternative alternative) link a → ⊥) }
     {
         match link {
-            Link::Entry { after } => self.entry_in(number, found, alternative, after),
+            Link::Entry { after } => self.entry_in(found, alternative, after),
             Link::Type(_) => None,
             Link::Alternative { .. } => None,
         }
@@ -286,25 +295,60 @@ impl Sources {
         self.first_value(number, found, key, origin)
     }
 
-    // The place of an entry of the group whose brackets are the ends of what was found before.
-    fn entry_in(
-        &self,
-        number: u32,
-        found: Option<PieceAt>,
-        alternative: usize,
-        place: usize,
-    ) -> Option<PieceAt>
-        ensures some { IfSome result (IsEntryOf self.now number found alternative place) }
-        ensures none { IfNone result ((a : Piece) → IsEntryOf self.now number found alternative place a → ⊥) }
+    // The place of an entry of the group that what was found before is, in its brackets or by its name.
+    fn entry_in(&self, found: Option<PieceAt>, alternative: usize, place: usize) -> Option<PieceAt>
+        ensures some { IfSome result (IsEntryOf self.now found alternative place) }
+        ensures none { IfNone result ((a : Piece) → IsEntryOf self.now found alternative place a → ⊥) }
     {
         let around = found?;
-        self.first_entry(number, found, around.span, alternative, place)
+        match self.first_entry(around.rule, Some(around.span), alternative, place) {
+            Some(entry) => Some(entry),
+            None => self.entry_named(around, alternative, place),
+        }
     }
 
-    // The first place in the rules of the name that is of this, within what was found before.
+    // The same by its name.
+    fn entry_named(&self, around: PieceAt, alternative: usize, place: usize) -> Option<PieceAt>
+        ensures some { IfSome result (IsEntryNamed self.now around alternative place) }
+        ensures none { IfNone result ((a : Piece) → IsEntryNamed self.now around alternative place a → ⊥) }
+    {
+        let name = around.name?;
+        let found = self.alternative_in(name, alternative)?;
+        self.first_entry(found.rule, None, found.own, place)
+    }
+
+    // How many alternatives the rule at this place makes, if it has this number.
+    fn count_at(&self, rule: usize, number: u32) -> usize
+        ensures { result ≡ count_in number (slice_get self.now.rules.items rule) }
+    {
+        match self.rules.get(rule) {
+            Some(at) if at.number == number => at.alternatives,
+            _ => 0,
+        }
+    }
+
+    // The rule of this number that has an alternative with so many after it in all rules of the number.
+    fn alternative_in(&self, number: u32, alternative: usize) -> Option<Alternative>
+        ensures some { IfSome result (λ f. IsAlternative self.now number alternative f.rule f.own) }
+        ensures none { IfNone result ((i own : ℕ) → IsAlternative self.now number alternative i own → ⊥) }
+    {
+        let mut own = alternative;
+        let mut left = self.rules.len();
+        'rules: while left > 0 {
+            left -= 1;
+            let count = self.count_at(left, number);
+            if own < count {
+                return Some(Alternative { rule: left, own });
+            }
+            own -= count;
+        }
+        None
+    }
+
+    // The first place that is of this, within what was found before, or in the rules of the name.
     fn first_type(&self, number: u32, found: Option<PieceAt>, origin: TypeOrigin) -> Option<PieceAt>
-        ensures some { IfSome result (λ a. IsOfOrigin self.now number origin a × IsInside found a) }
-        ensures none { IfNone result ((a : Piece) → IsOfOrigin self.now number origin a → IsInside found a → ⊥) }
+        ensures some { IfSome result (λ a. IsOfOrigin self.now origin a × IsFrom self.now number found a) }
+        ensures none { IfNone result ((a : Piece) → IsOfOrigin self.now origin a → IsFrom self.now number found a → ⊥) }
     {
         for piece in &self.pieces {
             if self.is_next(*piece, number, found, origin) {
@@ -322,8 +366,8 @@ impl Sources {
         key: TypeOrigin,
         origin: TypeOrigin,
     ) -> Option<PieceAt>
-        ensures some { IfSome result (λ a. IsOfOrigin self.now number origin a × IsInside found a × (a.key ≡ Some key)) }
-        ensures none { IfNone result ((a : Piece) → IsOfOrigin self.now number origin a → IsInside found a → a.key ≡ Some key → ⊥) }
+        ensures some { IfSome result (λ a. IsOfOrigin self.now origin a × IsFrom self.now number found a × (a.key ≡ Some key)) }
+        ensures none { IfNone result ((a : Piece) → IsOfOrigin self.now origin a → IsFrom self.now number found a → a.key ≡ Some key → ⊥) }
     {
         for piece in &self.pieces {
             if self.is_next(*piece, number, found, origin) && has_key(*piece, key) {
@@ -333,44 +377,26 @@ impl Sources {
         None
     }
 
-    // The first entry in the brackets that are the ends of this part of the text, in the rules of the name.
+    // The first entry in this rule of the group with this round it.
     fn first_entry(
         &self,
-        number: u32,
-        found: Option<PieceAt>,
-        around: Span,
+        rule: usize,
+        around: Option<Span>,
         alternative: usize,
         place: usize,
     ) -> Option<PieceAt>
-        ensures some { IfSome result (IsEntryIn self.now number found around alternative place) }
-        ensures none { IfNone result ((a : Piece) → IsEntryIn self.now number found around alternative place a → ⊥) }
+        ensures some { IfSome result (IsEntryThere self.now rule around alternative place) }
+        ensures none { IfNone result ((a : Piece) → IsEntryThere self.now rule around alternative place a → ⊥) }
     {
         for piece in &self.pieces {
-            if self.is_entry_of(*piece, number, found, around, alternative, place) {
+            if is_there(*piece, rule, around, alternative, place) {
                 return Some(*piece);
             }
         }
         None
     }
 
-    // Whether the piece is such an entry.
-    fn is_entry_of(
-        &self,
-        piece: PieceAt,
-        number: u32,
-        found: Option<PieceAt>,
-        around: Span,
-        alternative: usize,
-        place: usize,
-    ) -> bool
-        ensures is { IsTrue result ↔ (HasNumber self.now piece.rule number × IsInside found piece × IsEntryWith around alternative place piece) }
-    {
-        is_entry(piece, around, alternative, place)
-            && self.is_named(piece.rule, number)
-            && is_inside(found, piece)
-    }
-
-    // Whether the place is of this, in a rule with this number, and within what was found before.
+    // Whether the place is of this, and within what was found before, or in a rule with this number.
     fn is_next(
         &self,
         piece: PieceAt,
@@ -378,9 +404,18 @@ impl Sources {
         found: Option<PieceAt>,
         origin: TypeOrigin,
     ) -> bool
-        ensures is { IsTrue result ↔ (HasNumber self.now piece.rule number × (piece.origin ≡ Some origin) × IsInside found piece) }
+        ensures is { IsTrue result ↔ ((piece.origin ≡ Some origin) × IsFrom self.now number found piece) }
     {
-        is_of(piece, origin) && self.is_named(piece.rule, number) && is_inside(found, piece)
+        is_of(piece, origin) && self.is_from(piece, number, found)
+    }
+
+    fn is_from(&self, piece: PieceAt, number: u32, found: Option<PieceAt>) -> bool
+        ensures is { IsTrue result ↔ IsFrom self.now number found piece }
+    {
+        match found {
+            Some(outer) => is_inside(outer, piece),
+            None => self.is_named(piece.rule, number),
+        }
     }
 
     // Whether the rule at this place has this number.
@@ -394,14 +429,13 @@ impl Sources {
     }
 }
 
-// Whether the place lies within what was found before.
-fn is_inside(found: Option<PieceAt>, piece: PieceAt) -> bool
-    ensures { IsTrue result ↔ IsInside found piece }
+// Whether the place lies within the other.
+fn is_inside(outer: PieceAt, piece: PieceAt) -> bool
+    ensures { IsTrue result ↔ IsInside outer piece }
 {
-    match found {
-        Some(outer) => outer.span.first <= piece.span.first && piece.span.end <= outer.span.end,
-        None => true,
-    }
+    piece.rule == outer.rule
+        && outer.span.first <= piece.span.first
+        && piece.span.end <= outer.span.end
 }
 
 // Whether it is of this.
@@ -414,12 +448,24 @@ fn is_of(piece: PieceAt, origin: TypeOrigin) -> bool
     }
 }
 
-// Whether it is an entry in the brackets that are the ends of this part of the text, with so many alternatives after its own and so
-// many entries after it.
-fn is_entry(piece: PieceAt, around: Span, alternative: usize, place: usize) -> bool
-    ensures { IsTrue result ↔ IsEntryWith around alternative place piece }
+// Whether it is an entry in this rule, with this round its group, and with so many alternatives and so many entries after it.
+fn is_there(
+    piece: PieceAt,
+    rule: usize,
+    around: Option<Span>,
+    alternative: usize,
+    place: usize,
+) -> bool
+    ensures { IsTrue result ↔ ((piece.rule ≡ rule) × IsPlacedIn around alternative place piece.entry) }
 {
-    match piece.entry {
+    piece.rule == rule && is_placed(piece.entry, around, alternative, place)
+}
+
+// Whether it is an entry with this round its group, and with so many alternatives and so many entries after it.
+fn is_placed(entry: Option<EntryAt>, around: Option<Span>, alternative: usize, place: usize) -> bool
+    ensures { IsTrue result ↔ IsPlacedIn around alternative place entry }
+{
+    match entry {
         Some(entry) => {
             entry.around == around && entry.alternative == alternative && entry.place == place
         }

@@ -2,9 +2,9 @@
 
 ghost use Rattle.std.specs.Prelude.{OnOk, [], ◌∷◌};
 ghost use Rattle.tree_nodes.specs.Syntax.Syntax as S;
-ghost use Rattle.tree_nodes.specs.View.{view_grpent, view_key, view_type1, view_type2, view_types, view_value};
+ghost use Rattle.tree_nodes.specs.View.{view_key, view_type1, view_type2, view_types, view_value};
 ghost use Rattle.cddl_sources.specs.Pieces.{a_type, a_value, a_word, an_entry, key_piece, operand};
-ghost use Rattle.cddl_sources.specs.Walk.{Adds, view_node};
+ghost use Rattle.cddl_sources.specs.Walk.{Adds, view_around, view_inner, view_node};
 
 use crate::node::{EntryNode, Found, Node};
 use std::alloc::AllocError;
@@ -76,7 +76,7 @@ pub(crate) fn push_entry<'t>(
     rule: usize,
     found: &mut Vec<Found<'t>>,
 ) -> Result<(), AllocError>
-    ensures { OnOk result (Adds found.old.items found.new.items rule (λ read. an_entry (read entry.entry.brackets.opening) (read entry.entry.brackets.closing) entry.entry.alternative entry.entry.place (view_grpent read entry.entry.entry.now) ∷ [])) }
+    ensures { OnOk result (Adds found.old.items found.new.items rule (λ read. an_entry (view_around read entry.entry.around) entry.entry.alternative entry.entry.place (view_inner read entry.entry.inner) ∷ [])) }
 {
     push(Node::Entry(entry), rule, found)
 }

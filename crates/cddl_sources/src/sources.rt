@@ -2,11 +2,14 @@
 
 ghost use Rattle.std.specs.Prelude.{◌≡◌, ◌++◌, [], ◌∷◌, IfOk, OnOk, map};
 ghost use Rattle.cddl_language.specs.Reading.{rules_of};
+ghost use Rattle.cddl_token.specs.declared.Token.{Token};
 ghost use Rattle.check_terms.specs.Table.{Grows};
-ghost use Rattle.tree_nodes.specs.View.{token_of, view, view_rule};
+ghost use Rattle.tree_nodes.specs.View.{token_of, view, view_group, view_grpent, view_rule};
+ghost use Rattle.tree_nodes.specs.declared.tree.Leaf.{Leaf};
 ghost use Rattle.cddl_table.specs.Ranks.{LeavesNoRankOut};
 ghost use Rattle.cddl_table.specs.Text.{IsTableOf};
 ghost use Rattle.cddl_sources.specs.Origins.{ArePieces};
+ghost use Rattle.cddl_sources.specs.Pieces.{alternatives_of, count_of, own_count};
 ghost use Rattle.cddl_sources.specs.Sources.{AreRules, AreSourcesOf, IsMade, IsRuleAt};
 ghost use Rattle.cddl_sources.specs.States.{name_number};
 
@@ -24,13 +27,15 @@ use check_terms::{NoRoom, Terms};
 use std::alloc::{AllocError, Global};
 use table_making::TypeOrigin;
 use table_nodes::Table;
-use tree_nodes::{Rule, Tree};
+use tree_nodes::{Group, GrpEnt, Rule, Tree};
 
 /// A rule of the text.
 #[derive(Clone, Copy)]
 pub(crate) struct RuleAt {
     // The number of its name.
     pub(crate) number: u32,
+    // So many alternatives it makes as a group.
+    pub(crate) alternatives: usize,
     pub(crate) name: Span,
     pub(crate) body: Span,
 }
@@ -174,6 +179,41 @@ fn push_rule(rules: &mut Vec<RuleAt>, rule: RuleAt) -> Result<(), NoRoom>
     }
 }
 
+// How many alternatives a rule makes as a group.
+fn alternatives_of(rule: &Rule) -> Result<usize, NoRoom>
+    ensures { (read : Leaf → Token) → IfOk result (λ n. n ≡ alternatives_of (view_rule read rule.now)) }
+{
+    match rule {
+        Rule::TypeRule { .. } => Ok(1),
+        Rule::GroupRule { grpent, .. } => own_count(grpent),
+    }
+}
+
+// The same of a rule whose body this is.
+fn own_count(body: &GrpEnt) -> Result<usize, NoRoom>
+    ensures { (read : Leaf → Token) → IfOk result (λ n. n ≡ own_count (view_grpent read body.now)) }
+{
+    match body {
+        GrpEnt::Typed { .. } => Ok(1),
+        GrpEnt::Keyed { .. } => Ok(1),
+        GrpEnt::Grouped { occur, group, .. } => match occur {
+            Some(_) => Ok(1),
+            None => count_of(group),
+        },
+    }
+}
+
+// How many alternatives a group has.
+fn count_of(group: &Group) -> Result<usize, NoRoom>
+    ensures { (read : Leaf → Token) → IfOk result (λ n. n ≡ count_of (view_group read group.now)) }
+{
+    let Group { others, .. } = group;
+    match others.len().checked_add(1) {
+        Some(count) => Ok(count),
+        None => Err(NoRoom),
+    }
+}
+
 fn rule_at<'s>(terms: &mut Terms<'s>, tree: &Tree<'s>, rule: &Rule) -> Result<RuleAt, NoRoom>
     ensures grows { Grows terms.old terms.new }
     ensures rule { IfOk result (λ a. IsRuleAt terms.new (view_rule (token_of tree.now) rule.now) a) }
@@ -182,6 +222,7 @@ fn rule_at<'s>(terms: &mut Terms<'s>, tree: &Tree<'s>, rule: &Rule) -> Result<Ru
     match name_span(tree, rule) {
         Some(name) => Ok(RuleAt {
             number,
+            alternatives: alternatives_of(rule)?,
             name,
             body: body_span(tree, rule),
         }),

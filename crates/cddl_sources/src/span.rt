@@ -6,11 +6,11 @@ ghost use Rattle.cddl_token.specs.declared.Kind.TheVariants.{Name};
 ghost use Rattle.tree_nodes.specs.Syntax.Syntax as S;
 ghost use Rattle.tree_nodes.specs.View.{token_of, view_grpent, view_name, view_ref, view_rule, view_type1, view_type2, view_types, view_value};
 ghost use Rattle.tree_nodes.specs.declared.tree.Tree.{Tree as TreeOf};
-ghost use Rattle.cddl_sources.specs.Pieces.{tokens_of_entry, tokens_of_piece};
+ghost use Rattle.cddl_sources.specs.Pieces.{tokens_of_inner, tokens_of_piece};
 ghost use Rattle.cddl_sources.specs.Spans.{EndsAt, IsNameSpan, IsSpan, body_tokens};
-ghost use Rattle.cddl_sources.specs.Walk.{view_node};
+ghost use Rattle.cddl_sources.specs.Walk.{view_inner, view_node};
 
-use crate::node::{Brackets, Node};
+use crate::node::{InnerNode, Node};
 use check_terms::opened_name;
 use tree_nodes::{GrpEnt, Leaf, Ref, Rule, RuleName, Tree, Type1, Type2, Types, Value};
 
@@ -43,39 +43,28 @@ pub(crate) fn node_span(tree: &Tree<'_>, node: Node<'_>) -> Span
         },
         Node::Word(leaf) => word_span(tree, leaf),
         Node::Value(_, types) => types_span(tree, types),
-        Node::Entry(node) => entry_span(tree, node.entry),
+        Node::Entry(node) => inner_span(tree, node.inner),
     }
 }
 
 // Where the type of an entry stands, or its group in parentheses.
-fn entry_span(tree: &Tree<'_>, entry: &GrpEnt) -> Span
-    ensures { IsSpan (tokens_of_entry (view_grpent (token_of tree.now) entry.now)) result }
+fn inner_span(tree: &Tree<'_>, inner: InnerNode<'_>) -> Span
+    ensures { IsSpan (tokens_of_inner (view_inner (token_of tree.now) inner.entry)) result }
 {
-    match entry {
-        GrpEnt::Typed { types, .. } => types_span(tree, types),
-        GrpEnt::Keyed { types, .. } => types_span(tree, types),
-        GrpEnt::Grouped {
-            opening,
-            closing,
-            ..
-        } => brackets_span(
-            tree,
-            Brackets {
-                opening: *opening,
-                closing: *closing,
-            },
-        ),
+    match inner {
+        InnerNode::Types(types) => types_span(tree, types),
+        InnerNode::Group(opening, _, closing) => brackets_span(tree, opening, closing),
     }
 }
 
 // From one bracket to the other.
-pub(crate) fn brackets_span(tree: &Tree<'_>, brackets: Brackets) -> Span
-    ensures first { result.first ≡ (token_of tree.now brackets.opening).start }
-    ensures end { result.end ≡ (token_of tree.now brackets.closing).end }
+pub(crate) fn brackets_span(tree: &Tree<'_>, opening: Leaf, closing: Leaf) -> Span
+    ensures first { result.first ≡ (token_of tree.now opening).start }
+    ensures end { result.end ≡ (token_of tree.now closing).end }
 {
     Span {
-        first: tree.token(brackets.opening).start,
-        end: end_of(tree, brackets.closing),
+        first: tree.token(opening).start,
+        end: end_of(tree, closing),
     }
 }
 

@@ -5,11 +5,11 @@ ghost use Rattle.std.specs.Prelude.{◌≡◌, ◌++◌, IfOk, OnOk, map};
 ghost use Rattle.std.specs.List.{flat_map};
 ghost use Rattle.cddl_language.specs.Reading.{rules_of};
 ghost use Rattle.tree_nodes.specs.View.{token_of, view, view_arg, view_group, view_grpent, view_key, view_ref, view_rule, view_type1, view_type2, view_types};
-ghost use Rattle.cddl_sources.specs.Pieces.{entries_in, in_arguments, in_entry, in_group, in_key, in_ref, in_rule, in_type1, in_type2, in_types, rule_by_rule};
+ghost use Rattle.cddl_sources.specs.Pieces.{brackets, entries_in, in_arguments, in_entry, in_group, in_key, in_ref, in_rule, in_type1, in_type2, in_types, rule_by_rule};
 ghost use Rattle.cddl_sources.specs.Walk.{Adds, entry_pieces, further_pieces, view_found};
 
-use crate::entries::add_own_entries;
-use crate::node::{Brackets, Found};
+use crate::entries::{add_body, add_entries_of, add_lone};
+use crate::node::{AroundNode, Found, InnerNode};
 use crate::push::{push_choice, push_literal, push_operand, push_operation, push_value, push_word};
 use std::alloc::{AllocError, Global};
 use tree_nodes::{
@@ -35,8 +35,14 @@ fn add_rule<'t>(node: &'t Rule, rule: usize, found: &mut Vec<Found<'t>>) -> Resu
     ensures { OnOk result (Adds found.old.items found.new.items rule (λ read. in_rule (view_rule read node.now))) }
 {
     match node {
-        Rule::TypeRule { types, .. } => add_types(types, rule, found),
-        Rule::GroupRule { grpent, .. } => add_grpent(grpent, rule, found),
+        Rule::TypeRule { types, .. } => {
+            add_lone(InnerNode::Types(types), rule, found)?;
+            add_types(types, rule, found)
+        }
+        Rule::GroupRule { grpent, .. } => {
+            add_body(grpent, rule, found)?;
+            add_grpent(grpent, rule, found)
+        }
     }
 }
 
@@ -105,7 +111,7 @@ fn add_type2<'t>(
             opening,
             group,
             closing,
-        } => add_bracketed(brackets(*opening, *closing), group, rule, found),
+        } => add_bracketed(*opening, group, *closing, rule, found),
         Type2::Unwrapped { name, .. } => add_ref(name, rule, found),
         Type2::ChoiceOf { group, .. } => add_group(group, rule, found),
         Type2::ChoiceOfName { name, .. } => add_ref(name, rule, found),
@@ -143,23 +149,18 @@ fn add_arguments<'t>(
     add_further(others, rule, found)
 }
 
-fn brackets(opening: Leaf, closing: Leaf) -> Brackets
-    ensures { result ≡ record { opening = opening; closing = closing } }
-{
-    Brackets { opening, closing }
-}
-
 // The entries of a group in brackets, and then what is in each of them.
 #[cycle(walk)]
 fn add_bracketed<'t>(
-    brackets: Brackets,
+    opening: Leaf,
     group: &'t Group,
+    closing: Leaf,
     rule: usize,
     found: &mut Vec<Found<'t>>,
 ) -> Result<(), AllocError>
-    ensures { OnOk result (Adds found.old.items found.new.items rule (λ read. entries_in (read brackets.opening) (read brackets.closing) 0 (view_group read group.now) ++ in_group (view_group read group.now))) }
+    ensures { OnOk result (Adds found.old.items found.new.items rule (λ read. entries_in (brackets (read opening) (read closing)) 0 (view_group read group.now) ++ in_group (view_group read group.now))) }
 {
-    add_own_entries(brackets, group, rule, found)?;
+    add_entries_of(AroundNode::Brackets(opening, closing), group, rule, found)?;
     add_group(group, rule, found)
 }
 
@@ -213,7 +214,7 @@ fn add_grpent<'t>(
             group,
             closing,
             ..
-        } => add_bracketed(brackets(*opening, *closing), group, rule, found),
+        } => add_bracketed(*opening, group, *closing, rule, found),
     }
 }
 

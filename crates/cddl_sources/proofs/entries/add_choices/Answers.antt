@@ -1,5 +1,5 @@
 use Rattle.std.proofs.Common.{ap}
-use Rattle.cddl_sources.specs.Walk.{listed_choices}
+use Rattle.cddl_sources.specs.Walk.{listed_choices, view_around}
 use Rattle.cddl_sources.proofs.Adding.{adds_as, adds_both, adds_none}
 use Rattle.cddl_sources.proofs.Listing.{listed_as, none_left}
 use Rattle.cddl_sources.proofs.entries.add_choices.Goals as goal
@@ -10,7 +10,7 @@ each-init c = record { follows = λ new h. h }
 pub each-preserved : goal.each-preserved
 each-preserved c =
     let is = c.in-Some.ensures.cases.0 in
-    record { follows = λ new h. c.each.invariant.follows new (adds_as _ (λ read. ap (listed_choices read c.args.brackets) is) (adds_both (listed_as c.args.brackets _ _ _ c.as_slice-entries.ensures.value c.in_ok-add_listed.ensures) h)) }
+    record { follows = λ new h. c.each.invariant.follows new (adds_as _ (λ read. ap (listed_choices read (view_around read c.args.around)) is) (adds_both (listed_as c.args.around _ _ _ c.as_slice-entries.ensures.value c.in_ok-add_listed.ensures) h)) }
 
 pub returns : goal.returns
-returns c = c.each.invariant.follows _ (adds_none _ _ _ (λ read. ap (listed_choices read c.args.brackets) (none_left _ c.in_default.ensures.cases)))
+returns c = c.each.invariant.follows _ (adds_none _ _ _ (λ read. ap (listed_choices read (view_around read c.args.around)) (none_left _ c.in_default.ensures.cases)))

@@ -5,7 +5,7 @@ use Rattle.cddl_sources.specs.Origins.{AreRead}
 use Rattle.cddl_sources.specs.declared.node.Found.{Found}
 use Rattle.cddl_sources.specs.declared.piece.PieceAt.{PieceAt}
 use Rattle.cddl_sources.proofs.Growing.{grown}
-use Rattle.cddl_sources.proofs.Reading.{may_kept, none_read, one_more_read}
+use Rattle.cddl_sources.proofs.Reading.{key_kept, may_kept, none_read, one_more_read}
 use Rattle.cddl_sources.proofs.origin.pieces_of.Goals as goal
 
 pub loop-node-init : goal.loop-node-init
@@ -21,12 +21,15 @@ pub returns-in_err-key-clause-grows : goal.returns-in_err-key-clause-grows
 returns-in_err-key-clause-grows c = grown _ _ _ c.loop-node.invariant.grows (grown _ _ _ c.in_ok-origin.ensures.grows c.in_err-key.ensures.grows)
 
 pub returns-in_err-push-clause-grows : goal.returns-in_err-push-clause-grows
-returns-in_err-push-clause-grows c = grown _ _ _ c.loop-node.invariant.grows (grown _ _ _ c.in_ok-origin.ensures.grows c.in_ok-key.ensures.grows)
+returns-in_err-push-clause-grows c = grown _ _ _ c.loop-node.invariant.grows (grown _ _ _ c.in_ok-origin.ensures.grows (grown _ _ _ c.in_ok-key.ensures.grows c.in_ok-name.ensures.grows))
+
+pub returns-in_err-name-clause-grows : goal.returns-in_err-name-clause-grows
+returns-in_err-name-clause-grows c = grown _ _ _ c.loop-node.invariant.grows (grown _ _ _ c.in_ok-origin.ensures.grows (grown _ _ _ c.in_ok-key.ensures.grows c.in_err-name.ensures.grows))
 
 pub loop-node-preserved : goal.loop-node-preserved
 loop-node-preserved c = record {
-  grows = grown _ _ _ c.loop-node.invariant.grows (grown _ _ _ c.in_ok-origin.ensures.grows c.in_ok-key.ensures.grows);
-  are = one_more_read _ _ (token_of c.args.tree.now) _ _ _ _ _ c.node-item.result c.loop-node.invariant.are (grown _ _ _ c.in_ok-origin.ensures.grows c.in_ok-key.ensures.grows) (take_more c.args.found.now c.loop-node.node-index _ c.loop-node-test.true ∙ ap (λ (f : Found). take c.loop-node.node-index c.args.found.now ++ f ∷ []) (sym c.node-item.is)) (record { rule = refl; is = record { origin = may_kept _ _ _ _ c.in_ok-key.ensures.grows c.in_ok-origin.ensures.origin; key = c.in_ok-key.ensures.key; entry = c.entry_at.ensures; span = c.node_span.ensures } }) c.in_ok-push.ensures;
+  grows = grown _ _ _ c.loop-node.invariant.grows (grown _ _ _ c.in_ok-origin.ensures.grows (grown _ _ _ c.in_ok-key.ensures.grows c.in_ok-name.ensures.grows));
+  are = one_more_read _ _ (token_of c.args.tree.now) _ _ _ _ _ c.node-item.result c.loop-node.invariant.are (grown _ _ _ c.in_ok-origin.ensures.grows (grown _ _ _ c.in_ok-key.ensures.grows c.in_ok-name.ensures.grows)) (take_more c.args.found.now c.loop-node.node-index _ c.loop-node-test.true ∙ ap (λ (f : Found). take c.loop-node.node-index c.args.found.now ++ f ∷ []) (sym c.node-item.is)) (record { rule = refl; is = record { origin = may_kept _ _ _ _ (grown _ _ _ c.in_ok-key.ensures.grows c.in_ok-name.ensures.grows) c.in_ok-origin.ensures.origin; key = key_kept _ _ _ _ c.in_ok-name.ensures.grows c.in_ok-key.ensures.key; entry = c.entry_at.ensures; name = c.in_ok-name.ensures.name; span = c.node_span.ensures } }) c.in_ok-push.ensures;
 }
 
 pub returns-clause-read : goal.returns-clause-read

@@ -44,7 +44,7 @@ add_type2-returns-in-MapOf t c =
 
 pub add_type2-returns-in-ArrayOf : goal.add_type2-returns-in-ArrayOf
 add_type2-returns-in-ArrayOf t c =
-    on_ok c.add_bracketed.result _ _ (λ h. adds_as _ (λ read. array_pieces read _ c.in-ArrayOf.opening c.in-ArrayOf.group c.in-ArrayOf.closing c.in-ArrayOf.is) (adds_both c.in_ok-push_operand.ensures (rw c.brackets.ensures at h))) c.add_bracketed.ensures
+    on_ok c.add_bracketed.result _ _ (λ h. adds_as _ (λ read. array_pieces read _ c.in-ArrayOf.opening c.in-ArrayOf.group c.in-ArrayOf.closing c.in-ArrayOf.is) (adds_both c.in_ok-push_operand.ensures h)) c.add_bracketed.ensures
 
 pub add_type2-returns-in-Unwrapped : goal.add_type2-returns-in-Unwrapped
 add_type2-returns-in-Unwrapped t c =
@@ -86,7 +86,7 @@ add_arguments-returns t c =
 
 pub add_bracketed-returns : goal.add_bracketed-returns
 add_bracketed-returns t c =
-    on_ok c.add_group.result _ _ (adds_both c.in_ok-add_own_entries.ensures) c.add_group.ensures
+    on_ok c.add_group.result _ _ (adds_both c.in_ok-add_entries_of.ensures) c.add_group.ensures
 
 pub add_group-loop-choice-preserved : goal.add_group-loop-choice-preserved
 add_group-loop-choice-preserved t c =
@@ -114,7 +114,7 @@ add_grpent-returns-in_ok-push_value-in-Keyed t c =
 
 pub add_grpent-returns-in-Grouped : goal.add_grpent-returns-in-Grouped
 add_grpent-returns-in-Grouped t c =
-    on_ok c.add_bracketed.result _ _ (λ h. adds_as _ (λ read. grouped_pieces read _ c.in-Grouped.occur c.in-Grouped.opening c.in-Grouped.group c.in-Grouped.closing c.in-Grouped.is) (rw c.brackets.ensures at h)) c.add_bracketed.ensures
+    on_ok c.add_bracketed.result _ _ (λ h. adds_as _ (λ read. grouped_pieces read _ c.in-Grouped.occur c.in-Grouped.opening c.in-Grouped.group c.in-Grouped.closing c.in-Grouped.is) h) c.add_bracketed.ensures
 
 pub add_key-returns-in-TypeKey : goal.add_key-returns-in-TypeKey
 add_key-returns-in-TypeKey t c =

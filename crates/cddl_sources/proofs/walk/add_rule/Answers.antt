@@ -1,11 +1,11 @@
-use Rattle.cddl_sources.proofs.Adding.{on_ok, adds_as}
+use Rattle.cddl_sources.proofs.Adding.{on_ok, adds_as, adds_both}
 use Rattle.cddl_sources.proofs.Nodes.{type_rule_pieces, group_rule_pieces}
 use Rattle.cddl_sources.proofs.walk.add_rule.Goals as goal
 
-pub returns-in-TypeRule : goal.returns-in-TypeRule
-returns-in-TypeRule c =
-    on_ok c.add_types.result _ _ (adds_as _ (λ read. type_rule_pieces read _ c.in-TypeRule.name c.in-TypeRule.assign c.in-TypeRule.types c.in-TypeRule.is)) c.add_types.ensures
+pub returns-in_ok-add_lone-in-TypeRule : goal.returns-in_ok-add_lone-in-TypeRule
+returns-in_ok-add_lone-in-TypeRule c =
+    on_ok c.add_types.result _ _ (λ h. adds_as _ (λ read. type_rule_pieces read _ c.in-TypeRule.name c.in-TypeRule.assign c.in-TypeRule.types c.in-TypeRule.is) (adds_both c.in_ok-add_lone-in-TypeRule.ensures h)) c.add_types.ensures
 
-pub returns-in-GroupRule : goal.returns-in-GroupRule
-returns-in-GroupRule c =
-    on_ok c.add_grpent.result _ _ (adds_as _ (λ read. group_rule_pieces read _ c.in-GroupRule.name c.in-GroupRule.assign c.in-GroupRule.grpent c.in-GroupRule.is)) c.add_grpent.ensures
+pub returns-in_ok-add_body-in-GroupRule : goal.returns-in_ok-add_body-in-GroupRule
+returns-in_ok-add_body-in-GroupRule c =
+    on_ok c.add_grpent.result _ _ (λ h. adds_as _ (λ read. group_rule_pieces read _ c.in-GroupRule.name c.in-GroupRule.assign c.in-GroupRule.grpent c.in-GroupRule.is) (adds_both c.in_ok-add_body-in-GroupRule.ensures h)) c.add_grpent.ensures

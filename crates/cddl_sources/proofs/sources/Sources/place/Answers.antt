@@ -5,7 +5,7 @@ use Rattle.type_links.specs.declared.link.Link.{Link}
 use Rattle.cddl_sources.specs.States.{IsStateAfter, IsStateOf}
 use Rattle.cddl_sources.specs.declared.place.State.{State}
 use Rattle.cddl_sources.proofs.Standing.{is_place, no_rule}
-use Rattle.cddl_sources.proofs.Stepping.{at_index, found_named, next_state, none_then, some_then}
+use Rattle.cddl_sources.proofs.Stepping.{at_index, found_there, next_state, none_then, some_then}
 use Rattle.cddl_sources.proofs.sources.Sources.place.Goals as goal
 
 pub loop-link-init : goal.loop-link-init
@@ -26,7 +26,7 @@ pub returns-in-Some-clause-none : goal.returns-in-Some-clause-none
 returns-in-Some-clause-none c =
     let all = subst (λ (ids : List Link). IsStateOf c.args.self.now ids c.loop-link.state) (take_all c.loop-link.link-index c.args.chain.now c.loop-link-test.false) c.loop-link.invariant in
     let after : IsStateAfter c.args.self.now c.args.chain.now c.in-Some.state = subst (λ (o : Option State). IsStateOf c.args.self.now c.args.chain.now o) c.in-Some.is all in
-    none_then c.told.result _ _ (λ f s table known m h. absurd (f after.rule (found_named c.args.self.now c.in-Some.state.number after.inside c.last_found.result (c.last_found.ensures after.inside after.found)))) c.told.ensures.none
+    none_then c.told.result _ _ (λ f s table known m h. absurd (f (after.rule.at, after.rule.there) (found_there c.args.self.now c.in-Some.state.number after.inside c.last_found.result (c.last_found.ensures after.inside after.found)))) c.told.ensures.none
 
 pub returns-in-None-clause-none : goal.returns-in-None-clause-none
 returns-in-None-clause-none c =
