@@ -18,6 +18,7 @@ use cddl_literal::{bytes_value, number_value, text_value};
 use std::alloc::{AllocError, AllocFailed, Global};
 use std::error::Error;
 use std::fmt;
+pub use text_position::{Position, position_of};
 
 mod bytes;
 mod gaps;
