@@ -1,20 +1,22 @@
 -- What a reason tells.
 use Rattle.std.proofs.Common.{◌≡◌, ℕ, ◌+◌, ◌<◌, ◌≤◌, List, [], ◌∷◌, ◌++◌, Contains, get_or, length, subst, take, append_assoc, arith, ap, sym, ◌∙◌, refl, All}
-use Rattle.std.proofs.lemmas.List.{append-nil, take_all, take_more}
+use Rattle.std.proofs.lemmas.List.{append-nil, length_push, length-take, take_all, take_more}
 use Rattle.cddl_meaning.specs.Forms as F
 use Rattle.cddl_meaning.specs.Forms.{Language}
 use Rattle.cbor_data.specs.Value.{Value}
 use Rattle.cddl_meaning.specs.Judges.{Reply, No}
 use Rattle.cddl_meaning.specs.Moves as M
 use Rattle.cddl_meaning.specs.Moves.{Question, Pending, Answered, Replies}
-use Rattle.std.proofs.lemmas.List.Elements.{Contains-append_right}
+use Rattle.std.proofs.lemmas.List.Elements.{All-nil, All-push, All-take, Contains-append_right}
+use Rattle.std.proofs.Math.Nat.{le_trans, min-le_right}
 use Rattle.cddl_match.specs.Entering.{EndIn}
 use Rattle.cddl_match.specs.Open.{AreOpenWith, further}
 use Rattle.cddl_match.proofs.Lemmas.{comes_replies}
 use Rattle.cddl_reasons.specs.Opened.{asked_in, waits_in}
-use Rattle.cddl_reasons.specs.Told.{AreReasons, IsCause, IsCount, IsEntryOf, IsReason, links_of, part_of, string_of, strings_of, type_of}
+use Rattle.cddl_reasons.specs.Told.{AreReasons, AreSome, IsCause, IsCount, IsEntryOf, IsReason, links_of, part_of, string_of, strings_of, type_of}
 use Rattle.cddl_reasons.specs.declared.causes.Cause.{Cause}
 use Rattle.cddl_reasons.specs.declared.causes.Cause.TheVariants as C
+use Rattle.cddl_reasons.specs.declared.causes.Reason.{Reason}
 use Rattle.cddl_reasons.specs.declared.causes.Reasons.{Reasons}
 use Rattle.cddl_reasons.specs.declared.run.Open.{Open}
 use Rattle.match_moves.specs.Views.{pending_view, question_view}
@@ -78,6 +80,16 @@ counted_cause l q far e C.TooMuch i h = absurd h
 counted_cause l q far e C.Stray i h = absurd h
 counted_cause l q far e (C.NothingHeld c) i h = absurd h
 
+-- one more of them, where there is room
+pub pushed_some : (l : Language TypeId GroupId) (first : Question TypeId GroupId) (most : ℕ) (rs : List Reason) (r : Reason) → AreSome l first most rs → IsReason l first r → length rs < most → AreSome l first most (rs ++ r ∷ [])
+pushed_some l first most rs r some is room = (All-push (IsReason l first) rs r some.0 is, rw (length_push rs r) (omega (arith, room)))
+
+pub taken_some : (l : Language TypeId GroupId) (first : Question TypeId GroupId) (most n : ℕ) (rs : List Reason) → AreSome l first most rs → AreSome l first most (take n rs)
+taken_some l first most n rs some = (All-take (IsReason l first) n rs some.0, rw (length-take n rs) (le_trans (min-le_right n (length rs)) some.1))
+
+pub none_some : (l : Language TypeId GroupId) (first : Question TypeId GroupId) (most : ℕ) → AreSome l first most []
+none_some l first most = (All-nil (IsReason l first), omega arith)
+
 -- what is told of a no
-pub are_reasons : (t : Table) (x : Value) (steps most place : ℕ) (r : Reasons) → r.place ≡ place → ((w : ℕ) → RootSays t x (No place) w → All (IsReason (language_of t) (root_question t x)) r.list.items) → (0 < most → 0 < length r.list.items) → (w : ℕ) × RootSays t x (No place) w × (w ≤ steps) → AreReasons t x steps most r
+pub are_reasons : (t : Table) (x : Value) (steps most place : ℕ) (r : Reasons) → r.place ≡ place → ((w : ℕ) → RootSays t x (No place) w → AreSome (language_of t) (root_question t x) most r.list.items) → (0 < most → 0 < length r.list.items) → (w : ℕ) × RootSays t x (No place) w × (w ≤ steps) → AreReasons t x steps most r
 are_reasons t x steps most place r at each some said = record { verdict = rw at said; each = each said.0 said.1; some = some }

@@ -123,10 +123,15 @@ pub record IsReason (l : Language TypeId GroupId) (first : M.Question TypeId Gro
   pub strings : map holder_view r.strings.items ≡ strings_of l before waits
   pub cause : IsCause l last r.place r.cause
 
--- The table says no to the item, which shows at that place, and these are reasons for it: some, if any are asked for.
+-- These are reasons, and no more of them than that.
+abbrev pub AreSome : Language TypeId GroupId → M.Question TypeId GroupId → (most : ℕ) → List Reason → Type 0
+AreSome l first most rs = All (IsReason l first) rs × (length rs ≤ most)
+
+-- The table says no to the item, which shows at that place, and these are reasons for it: some, if any are asked for, and no
+-- more than are asked for.
 pub record AreReasons (t : Table) (x : Value) (steps most : ℕ) (r : Reasons) : Type 0 where
   pub verdict : (w : ℕ) × RootSays t x (No r.place) w × (w ≤ steps)
-  pub each : All (IsReason (language_of t) (root_question t x)) r.list.items
+  pub each : AreSome (language_of t) (root_question t x) most r.list.items
   pub some : 0 < most → 0 < length r.list.items
 
 -- The table says yes to the item, or so many steps do not tell.

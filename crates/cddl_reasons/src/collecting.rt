@@ -1,9 +1,9 @@
 //! The reasons why an item does not match.
 
-ghost use Rattle.std.specs.Prelude.{◌≡◌, ◌<◌, ℕ, length, All, IfOk};
+ghost use Rattle.std.specs.Prelude.{◌≡◌, ◌<◌, ℕ, length, IfOk};
 ghost use Rattle.cddl_meaning.specs.Judges.{Answer};
 ghost use Rattle.cddl_match.specs.Machine.{root_question};
-ghost use Rattle.cddl_reasons.specs.Told.{AreReasons, HasNone, IsReason};
+ghost use Rattle.cddl_reasons.specs.Told.{AreReasons, AreSome, HasNone, IsReason};
 ghost use Rattle.table_nodes.specs.Language.{RootSays, language_of};
 
 use crate::aims::Aim;
@@ -34,7 +34,7 @@ fn pass_in<'i>(
     aim: Aim<'_>,
     turns: u64,
 ) -> Result<Found, AllocError>
-    ensures { IfOk result (λ found. All (IsReason (language_of table.now) (root_question table.now item.now)) found.list.items) }
+    ensures { IfOk result (λ found. AreSome (language_of table.now) (root_question table.now item.now) aim.entry.most found.list.items) }
 {
     let whole = item.item();
     let mut shelf = Shelf::for_item(aim.alloc, cells, whole);
@@ -61,7 +61,7 @@ fn pass(
     aim: Aim<'_>,
     turns: u64,
 ) -> Result<Found, AllocError>
-    ensures { IfOk result (λ found. All (IsReason (language_of table.now) (root_question table.now item.now)) found.list.items) }
+    ensures { IfOk result (λ found. AreSome (language_of table.now) (root_question table.now item.now) aim.entry.most found.list.items) }
 {
     let cells = Cells::new(aim.alloc);
     pass_in(table, item, &cells, place, aim, turns)
@@ -87,7 +87,7 @@ fn all_reasons(
     most: usize,
     turns: u64,
 ) -> Result<Found, AllocError>
-    ensures { IfOk result (λ found. All (IsReason (language_of table.now) (root_question table.now item.now)) found.list.items) }
+    ensures { IfOk result (λ found. AreSome (language_of table.now) (root_question table.now item.now) most found.list.items) }
 {
     let mut known = Vec::new(alloc);
     let mut found = pass(
@@ -150,7 +150,7 @@ fn or_root(
     most: usize,
     mut list: Vec<Reason>,
 ) -> Result<Vec<Reason>, AllocError>
-    ensures each { IfOk result (λ all. (w : ℕ) → RootSays table.now item.now (Answer.No place) w → All (IsReason (language_of table.now) (root_question table.now item.now)) list.items → All (IsReason (language_of table.now) (root_question table.now item.now)) all.items) }
+    ensures each { IfOk result (λ all. (w : ℕ) → RootSays table.now item.now (Answer.No place) w → AreSome (language_of table.now) (root_question table.now item.now) most list.items → AreSome (language_of table.now) (root_question table.now item.now) most all.items) }
     ensures some { IfOk result (λ all. 0 < most → 0 < length all.items) }
 {
     if most == 0 {
@@ -173,7 +173,7 @@ fn reasons_at(
     most: usize,
 ) -> Result<Reasons, AllocError>
     ensures at { IfOk result (λ reasons. reasons.place ≡ place) }
-    ensures each { IfOk result (λ reasons. (w : ℕ) → RootSays table.now item.now (Answer.No place) w → All (IsReason (language_of table.now) (root_question table.now item.now)) reasons.list.items) }
+    ensures each { IfOk result (λ reasons. (w : ℕ) → RootSays table.now item.now (Answer.No place) w → AreSome (language_of table.now) (root_question table.now item.now) most reasons.list.items) }
     ensures some { IfOk result (λ reasons. 0 < most → 0 < length reasons.list.items) }
 {
     let turns = steps.saturating_mul(TURNS);

@@ -1,6 +1,6 @@
 //! What is told of a question that has failed.
 
-ghost use Rattle.std.specs.Prelude.{◌≡◌, ◌++◌, ℕ, List, [], All, IfOk, IfSome, map};
+ghost use Rattle.std.specs.Prelude.{◌≡◌, ◌++◌, ℕ, List, [], IfOk, IfSome, map};
 ghost use Rattle.std.specs.Option.{option_map};
 ghost use Rattle.std.specs.List.{Contains};
 ghost use Rattle.cbor_data.specs.Value.{Pairs, Value};
@@ -8,7 +8,7 @@ ghost use Rattle.cddl_meaning.specs.Forms as F;
 ghost use Rattle.cddl_meaning.specs.Judges as J;
 ghost use Rattle.cddl_meaning.specs.Moves as M;
 ghost use Rattle.cddl_reasons.specs.Opened.{StandsAt, asked_in, waits_in};
-ghost use Rattle.cddl_reasons.specs.Told.{IsCause, IsCount, IsEntryOf, IsReason, content_in, content_of, holder_view, links_of, part_of, string_of, strings_of, type_of};
+ghost use Rattle.cddl_reasons.specs.Told.{AreSome, IsCause, IsCount, IsEntryOf, IsReason, content_in, content_of, holder_view, links_of, part_of, string_of, strings_of, type_of};
 ghost use Rattle.match_moves.specs.Views.{pending_group_view, pending_map_view, pending_view, question_view, reply_view, values};
 ghost use Rattle.table_nodes.specs.Language.{language_of};
 ghost use Rattle.table_nodes.specs.Nodes.{content_view, entries_view, entry_view, type_view};
@@ -339,7 +339,7 @@ fn tell_cause(
     aim: Aim<'_>,
     found: &mut Found,
 ) -> Result<(), AllocError>
-    ensures { IfOk result (λ _. (first : M.Question TypeId GroupId) → IsCause (language_of table.now) (question_view run.now.last.question) far cause → StandsAt (language_of table.now) first run.now.below.items run.now.last (M.Answered (J.Fails far)) → All (IsReason (language_of table.now) first) found.old.list.items → All (IsReason (language_of table.now) first) found.new.list.items) }
+    ensures { IfOk result (λ _. (first : M.Question TypeId GroupId) → IsCause (language_of table.now) (question_view run.now.last.question) far cause → StandsAt (language_of table.now) first run.now.below.items run.now.last (M.Answered (J.Fails far)) → AreSome (language_of table.now) first aim.entry.most found.old.list.items → AreSome (language_of table.now) first aim.entry.most found.new.list.items) }
 {
     if found.list.len() >= aim.most {
         found.more = found.more.saturating_add(1);
@@ -360,7 +360,7 @@ fn tell_count(
     aim: Aim<'_>,
     found: &mut Found,
 ) -> Result<(), AllocError>
-    ensures { IfOk result (λ _. (first : M.Question TypeId GroupId) → IsEntryOf (question_view run.now.last.question) far (entry_view entry.now) → StandsAt (language_of table.now) first run.now.below.items run.now.last (M.Answered (J.Fails far)) → All (IsReason (language_of table.now) first) found.old.list.items → All (IsReason (language_of table.now) first) found.new.list.items) }
+    ensures { IfOk result (λ _. (first : M.Question TypeId GroupId) → IsEntryOf (question_view run.now.last.question) far (entry_view entry.now) → StandsAt (language_of table.now) first run.now.below.items run.now.last (M.Answered (J.Fails far)) → AreSome (language_of table.now) first aim.entry.most found.old.list.items → AreSome (language_of table.now) first aim.entry.most found.new.list.items) }
 {
     let Some(cause) = count_cause(entry, count) else {
         return Ok(());
@@ -379,7 +379,7 @@ fn tell_entries(
     aim: Aim<'_>,
     found: &mut Found,
 ) -> Result<(), AllocError>
-    ensures { IfOk result (λ _. (first : M.Question TypeId GroupId) → ((e : F.MapEntry TypeId) → Contains (entries_view entries.now) e → IsEntryOf (question_view run.now.last.question) far e) → StandsAt (language_of table.now) first run.now.below.items run.now.last (M.Answered (J.Fails far)) → All (IsReason (language_of table.now) first) found.old.list.items → All (IsReason (language_of table.now) first) found.new.list.items) }
+    ensures { IfOk result (λ _. (first : M.Question TypeId GroupId) → ((e : F.MapEntry TypeId) → Contains (entries_view entries.now) e → IsEntryOf (question_view run.now.last.question) far e) → StandsAt (language_of table.now) first run.now.below.items run.now.last (M.Answered (J.Fails far)) → AreSome (language_of table.now) first aim.entry.most found.old.list.items → AreSome (language_of table.now) first aim.entry.most found.new.list.items) }
 {
     let mut left = entries;
     let mut number: usize = 0;
@@ -400,7 +400,7 @@ fn tell_counts(
     aim: Aim<'_>,
     found: &mut Found,
 ) -> Result<(), AllocError>
-    ensures { IfOk result (λ _. (first : M.Question TypeId GroupId) → StandsAt (language_of table.now) first run.now.below.items run.now.last (M.Answered (J.Fails far)) → All (IsReason (language_of table.now) first) found.old.list.items → All (IsReason (language_of table.now) first) found.new.list.items) }
+    ensures { IfOk result (λ _. (first : M.Question TypeId GroupId) → StandsAt (language_of table.now) first run.now.below.items run.now.last (M.Answered (J.Fails far)) → AreSome (language_of table.now) first aim.entry.most found.old.list.items → AreSome (language_of table.now) first aim.entry.most found.new.list.items) }
 {
     let Question::OfAlternative { entries, base, .. } = run.last.question else {
         return Ok(());
@@ -421,7 +421,7 @@ fn tell_fault(
     aim: Aim<'_>,
     found: &mut Found,
 ) -> Result<(), AllocError>
-    ensures { IfOk result (λ _. (first : M.Question TypeId GroupId) → StandsAt (language_of table.now) first run.now.below.items run.now.last (M.Answered (J.Fails far)) → All (IsReason (language_of table.now) first) found.old.list.items → All (IsReason (language_of table.now) first) found.new.list.items) }
+    ensures { IfOk result (λ _. (first : M.Question TypeId GroupId) → StandsAt (language_of table.now) first run.now.below.items run.now.last (M.Answered (J.Fails far)) → AreSome (language_of table.now) first aim.entry.most found.old.list.items → AreSome (language_of table.now) first aim.entry.most found.new.list.items) }
 {
     let last = &run.last;
     if !is_wanted(last, far) {
@@ -445,7 +445,7 @@ pub(crate) fn tell(
     aim: Aim<'_>,
     found: &mut Found,
 ) -> Result<(), AllocError>
-    ensures { IfOk result (λ _. (first : M.Question TypeId GroupId) → StandsAt (language_of table.now) first run.now.below.items run.now.last (M.Answered (reply_view reply.entry)) → All (IsReason (language_of table.now) first) found.old.list.items → All (IsReason (language_of table.now) first) found.new.list.items) }
+    ensures { IfOk result (λ _. (first : M.Question TypeId GroupId) → StandsAt (language_of table.now) first run.now.below.items run.now.last (M.Answered (reply_view reply.entry)) → AreSome (language_of table.now) first aim.entry.most found.old.list.items → AreSome (language_of table.now) first aim.entry.most found.new.list.items) }
 {
     match reply {
         Reply::Fails { far } => {

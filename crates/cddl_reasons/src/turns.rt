@@ -1,11 +1,11 @@
 //! The turns that the open questions take.
 
-ghost use Rattle.std.specs.Prelude.{◌≡◌, [], ◌∷◌, ◌++◌, List, All, IfOk, true};
+ghost use Rattle.std.specs.Prelude.{◌≡◌, [], ◌∷◌, ◌++◌, List, IfOk, true};
 ghost use Rattle.cddl_meaning.specs.Forms.{Language};
 ghost use Rattle.cddl_meaning.specs.Moves as M;
 ghost use Rattle.cddl_match.specs.Open.{AreOpenWith};
 ghost use Rattle.cddl_reasons.specs.Opened.{IsOpen, StandsAt};
-ghost use Rattle.cddl_reasons.specs.Told.{IsReason};
+ghost use Rattle.cddl_reasons.specs.Told.{AreSome};
 ghost use Rattle.match_moves.specs.Views.{entering_move, move_view, pending_view, question_view, reading_move, reply_view, sorting_view};
 ghost use Rattle.table_nodes.specs.Language.{language_of};
 ghost use Rattle.table_nodes.specs.declared.nodes.GroupId.{GroupId};
@@ -212,7 +212,7 @@ pub(crate) fn turn<'t, 'i>(
     found: &mut Found,
 ) -> Result<bool, AllocError>
     ensures opened { IfOk result (λ goes. goes ≡ true → (first : M.Question TypeId GroupId) → IsOpen (language_of table.now) first run.old → IsOpen (language_of table.now) first run.new) }
-    ensures found { IfOk result (λ _. (first : M.Question TypeId GroupId) → IsOpen (language_of table.now) first run.old → All (IsReason (language_of table.now) first) found.old.list.items → All (IsReason (language_of table.now) first) found.new.list.items) }
+    ensures found { IfOk result (λ _. (first : M.Question TypeId GroupId) → IsOpen (language_of table.now) first run.old → AreSome (language_of table.now) first aim.entry.most found.old.list.items → AreSome (language_of table.now) first aim.entry.most found.new.list.items) }
 {
     let next = mem::replace(&mut run.next, Move::Answered(Reply::Fails { far: 0 }));
     match next {

@@ -1,8 +1,7 @@
-use Rattle.std.proofs.Common.{All}
 use Rattle.cddl_match.specs.Machine.{root_question}
-use Rattle.cddl_reasons.specs.Told.{IsReason}
+use Rattle.cddl_reasons.specs.Told.{AreSome}
 use Rattle.table_nodes.specs.Language.{language_of}
 use Rattle.cddl_reasons.proofs.collecting.all_reasons.Given as goal
 
 abbrev pub invariant-passes : goal.invariant-passes
-invariant-passes l = All (IsReason (language_of l.fn.table) (root_question l.fn.table l.fn.item)) l.found.list.items
+invariant-passes l = AreSome (language_of l.fn.table) (root_question l.fn.table l.fn.item) l.fn.most l.found.list.items

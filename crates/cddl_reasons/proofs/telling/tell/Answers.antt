@@ -1,8 +1,7 @@
 use Rattle.std.proofs.Common.{subst}
-use Rattle.std.proofs.lemmas.List.Elements.{All-take}
 use Rattle.cddl_meaning.specs.Moves.{Answered}
 use Rattle.cddl_reasons.specs.Opened.{StandsAt}
-use Rattle.cddl_reasons.specs.Told.{IsReason}
+use Rattle.cddl_reasons.proofs.Tellings.{taken_some}
 use Rattle.match_moves.specs.Views.{reply_view}
 use Rattle.table_nodes.specs.Language.{language_of}
 use Rattle.cddl_reasons.proofs.telling.tell.Goals as goal
@@ -14,4 +13,4 @@ returns-in-Fails c = λ first at a.
     c.in_ok-tell_fault-in-Fails.ensures first here a
 
 pub returns-in-Takes : goal.returns-in-Takes
-returns-in-Takes c = λ first at a. rw c.forget.ensures (All-take (IsReason (language_of c.args.table.now) first) c.args.run.now.last.mark.reasons c.args.found.now.list.items a)
+returns-in-Takes c = λ first at a. rw c.forget.ensures (taken_some (language_of c.args.table.now) first c.args.aim.most c.args.run.now.last.mark.reasons c.args.found.now.list.items a)
