@@ -1,9 +1,9 @@
 -- What each turn keeps.
-use Rattle.std.proofs.Common.{◌≡◌, List, [], ◌∷◌, ◌++◌, map, reverse, ap, ◌∙◌}
+use Rattle.std.proofs.Common.{◌≡◌, List, [], ◌∷◌, ◌++◌, reverse, ap, ◌∙◌}
 use Rattle.std.proofs.lemmas.List.{map-append, reverse-append}
 use Rattle.cddl_meaning.specs.Forms.{Language}
 use Rattle.cddl_meaning.specs.Judges.{Reply}
-use Rattle.cddl_meaning.specs.Moves.{Question, Pending, InRef, Answered, Asks, first_move, next_move}
+use Rattle.cddl_meaning.specs.Moves.{Question, InRef, Answered, Asks, first_move, next_move}
 use Rattle.cddl_match.specs.Open.{AreOpenWith}
 use Rattle.cddl_match.proofs.Lemmas.{open_asked, open_answered}
 use Rattle.cddl_reasons.specs.Opened.{IsOpen, StandsAt, asked_in, waits_in}

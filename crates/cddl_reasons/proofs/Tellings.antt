@@ -1,5 +1,6 @@
 -- What a reason tells.
-use Rattle.std.proofs.Common.{◌≡◌, ℕ, ◌+◌, ◌<◌, ◌≤◌, List, [], ◌∷◌, ◌++◌, Contains, get_or, length, subst, take, append_assoc, arith, ap, sym, ◌∙◌, refl, All}
+use Rattle.std.proofs.Common.{◌≡◌, ◌≢◌, ℕ, ◌+◌, ◌<◌, ◌≤◌, ◌==◌, Bool, true, List, [], ◌∷◌, ◌++◌, Contains, get_or, length, subst, take, append_assoc, arith, ap, sym, ◌∙◌, refl}
+use Rattle.std.proofs.lemmas.Bool.Decides.{nat_tests}
 use Rattle.std.proofs.lemmas.List.{append-nil, length_push, length-take, take_all, take_more}
 use Rattle.cddl_meaning.specs.Forms as F
 use Rattle.cddl_meaning.specs.Forms.{Language}
@@ -86,6 +87,13 @@ pushed_some l first most rs r some is room = (All-push (IsReason l first) rs r s
 
 pub taken_some : (l : Language TypeId GroupId) (first : Question TypeId GroupId) (most n : ℕ) (rs : List Reason) → AreSome l first most rs → AreSome l first most (take n rs)
 taken_some l first most n rs some = (All-take (IsReason l first) n rs some.0, rw (length-take n rs) (le_trans (min-le_right n (length rs)) some.1))
+
+none_there : (rs : List Reason) (e : Bool) → e ≡ (length rs == 0) → e ≡ true → length rs ≡ 0
+none_there rs e is h = let t : (length rs == 0) ≡ true = sym is ∙ h in grind (arith, nat_tests, t)
+
+-- the first one, where one is asked for
+pub first_some : (l : Language TypeId GroupId) (first : Question TypeId GroupId) (most : ℕ) (rs : List Reason) (r : Reason) (e : Bool) → AreSome l first most rs → IsReason l first r → e ≡ (length rs == 0) → e ≡ true → most ≢ 0 → AreSome l first most (rs ++ r ∷ [])
+first_some l first most rs r e some is empty h asked = pushed_some l first most rs r some is (omega (arith, none_there rs e empty h, asked))
 
 pub none_some : (l : Language TypeId GroupId) (first : Question TypeId GroupId) (most : ℕ) → AreSome l first most []
 none_some l first most = (All-nil (IsReason l first), omega arith)

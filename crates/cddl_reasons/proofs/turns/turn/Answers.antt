@@ -1,4 +1,4 @@
-use Rattle.std.proofs.Common.{◌≡◌, sym, subst}
+use Rattle.std.proofs.Common.{◌≡◌, subst}
 use Rattle.cddl_match.proofs.Lemmas.{open_weighed}
 use Rattle.cddl_reasons.specs.Opened.{StandsAt}
 use Rattle.match_moves.specs.Views.{move_view, pending_view}
