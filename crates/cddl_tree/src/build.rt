@@ -180,59 +180,31 @@ pub(crate) fn simple_key(type1: Type1, colon: Leaf) -> Option<MemberKey>
 fn operand_key(type2: Type2, colon: Leaf) -> Option<MemberKey>
     ensures { (read : Leaf → Token) → IsKeyOf read result (S.one (view_type2 read type2)) (read colon) }
 {
-    match type2 {
+    match &type2 {
         Type2::Typename(name) => name_key(name, colon),
-        Type2::Literal(value) => Some(MemberKey::ValueKey { value, colon }),
+        Type2::Literal(value) => Some(MemberKey::ValueKey {
+            value: *value,
+            colon,
+        }),
         Type2::Hash(_) => None,
-        Type2::Unwrapped { name, .. } => {
-            drop(name);
-            None
-        }
-        Type2::ChoiceOfName { name, .. } => {
-            drop(name);
-            None
-        }
-        Type2::MapOf { group, .. } => {
-            drop(group);
-            None
-        }
-        Type2::ArrayOf { group, .. } => {
-            drop(group);
-            None
-        }
-        Type2::ChoiceOf { group, .. } => {
-            drop(group);
-            None
-        }
-        Type2::Parens { types, .. } => {
-            drop(types);
-            None
-        }
-        Type2::Tagged { types, .. } => {
-            drop(types);
-            None
-        }
-        Type2::SimpleBy { head, .. } => {
-            drop(head);
-            None
-        }
-        Type2::TaggedBy { head, types, .. } => {
-            drop(head);
-            drop(types);
-            None
-        }
+        Type2::Unwrapped { .. } => None,
+        Type2::ChoiceOfName { .. } => None,
+        Type2::MapOf { .. } => None,
+        Type2::ArrayOf { .. } => None,
+        Type2::ChoiceOf { .. } => None,
+        Type2::Parens { .. } => None,
+        Type2::Tagged { .. } => None,
+        Type2::SimpleBy { .. } => None,
+        Type2::TaggedBy { .. } => None,
     }
 }
 
-fn name_key(name: Ref, colon: Leaf) -> Option<MemberKey>
-    ensures { (read : Leaf → Token) → IsKeyOf read result (S.one (S.typename (view_ref read name))) (read colon) }
+fn name_key(name: &Ref, colon: Leaf) -> Option<MemberKey>
+    ensures { (read : Leaf → Token) → IsKeyOf read result (S.one (S.typename (view_ref read name.now))) (read colon) }
 {
     match name {
-        Ref::Name(name) => Some(MemberKey::Bareword { name, colon }),
-        Ref::Applied { arguments, .. } => {
-            drop(arguments);
-            None
-        }
+        Ref::Name(name) => Some(MemberKey::Bareword { name: *name, colon }),
+        Ref::Applied { .. } => None,
     }
 }
 

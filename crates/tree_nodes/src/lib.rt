@@ -3,6 +3,7 @@
 //! Contracts see a tree as a tree of `syntax`, which says what tokens it prints.
 #![tactic(auto)]
 
+mod letting_go;
 mod start;
 pub mod syntax;
 mod tree;

@@ -2,6 +2,7 @@
 ghost use Rattle.std.specs.Prelude.{◌≡◌};
 ghost use Rattle.tree_nodes.specs.View.{token_of};
 
+use crate::letting_go::{let_go_of_boxed_types, let_go_of_group, let_go_of_ref};
 use cddl_token::Token;
 
 /// A leaf: the index of its token in the tree's list of tokens.
@@ -59,9 +60,8 @@ pub enum Type1 {
     },
 }
 
-/// type2: an operand.
+/// type2: an operand. Letting go of one takes little of the program's stack for each bracket that is open in it.
 #[cycle(tree)]
-#[derive(Drop)]
 pub enum Type2 {
     Literal(Value),
     /// A typename; in an entry perhaps a groupname.
@@ -124,6 +124,61 @@ pub enum Type2 {
     },
     /// `#`, `#d` or `#d.n`
     Hash(Leaf),
+}
+
+impl Drop for Type2 {
+    #[cycle(letting_go)]
+    #[inline(always)]
+    fn drop(self) {
+        match self {
+            Type2::Literal(_) | Type2::Hash(_) => {}
+            Type2::Typename(name)
+            | Type2::Unwrapped { tilde: _, name }
+            | Type2::ChoiceOfName { ampersand: _, name } => let_go_of_ref(name),
+            Type2::MapOf {
+                opening: _,
+                group,
+                closing: _,
+            }
+            | Type2::ArrayOf {
+                opening: _,
+                group,
+                closing: _,
+            }
+            | Type2::ChoiceOf {
+                ampersand: _,
+                opening: _,
+                group,
+                closing: _,
+            } => let_go_of_group(group),
+            Type2::Parens {
+                opening: _,
+                types,
+                closing: _,
+            }
+            | Type2::Tagged {
+                opening: _,
+                types,
+                closing: _,
+            }
+            | Type2::SimpleBy {
+                opening: _,
+                head: types,
+                closing: _,
+            } => let_go_of_boxed_types(types),
+            Type2::TaggedBy {
+                opening: _,
+                head,
+                angle: _,
+                paren: _,
+                types,
+                closing: _,
+            } => {
+                let_go_of_boxed_types(head);
+                let_go_of_boxed_types(types);
+            }
+        }
+    }
 }
 
 /// A typename or groupname that is used, with its genericarg if it has one.

@@ -39,5 +39,5 @@ returns-in-Tagged c read p oc = simp (c.in-Tagged.is, views)
 pub returns-in-SimpleBy : goal.returns-in-SimpleBy
 returns-in-SimpleBy c read p oc = simp (c.in-SimpleBy.is, views)
 
-pub returns-in-TaggedBy : goal.returns-in-TaggedBy
-returns-in-TaggedBy c read p oc = simp (c.in-TaggedBy.is, views)
+pub returns : goal.returns
+returns c read p oc = simp (c.in-TaggedBy.is, views)
