@@ -6,3 +6,4 @@ pub mod Standing
 pub mod Walking
 mod OfClosed
 mod OfOpenings
+mod OfOutlines

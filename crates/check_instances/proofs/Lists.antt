@@ -73,7 +73,7 @@ apart_push (y ∷ ys) x h n = (λ g. by (in_cases ys (x ∷ []) y g), apart_push
     by (inr (inl e)) = n (inl (sym e))
     by (inr (inr g)) = g
 
-read_in : {A : Type 0} (xs : List A) (k : ℕ) (d : A) → k < length xs → IsIn (get_or xs k d) xs
+pub read_in : {A : Type 0} (xs : List A) (k : ℕ) (d : A) → k < length xs → IsIn (get_or xs k d) xs
 read_in [] k d l = absurd (omega (arith, l))
 read_in (x ∷ xs) zero d l = inl refl
 read_in (x ∷ xs) (suc k) d l = inr (read_in xs k d (omega (arith, l)))

@@ -3,6 +3,7 @@ pub mod Calls
 pub mod Found
 pub mod Lists
 pub mod Marks
+pub mod Outlines
 pub mod Search
 pub mod Steps
 pub mod Closed

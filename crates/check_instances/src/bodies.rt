@@ -18,11 +18,11 @@ ghost use Rattle.check_instances.specs.Steps as by;
 
 use crate::laws::patterns_grow;
 use crate::patterns::Pattern;
-use crate::room::take;
+use crate::room::{Lack, take};
 use check_names::environment::Name;
 use check_terms::fill::arguments_of;
 use check_terms::laws::{filled_trees, is_table};
-use check_terms::{Body, NoRoom, Terms, push};
+use check_terms::{Body, Terms, push};
 use rooms::Room;
 use std::alloc::Global;
 
@@ -36,17 +36,17 @@ pub(crate) fn bodies_of(
     known: &[Pattern],
     own: &[Pattern],
     call: u32,
-) -> Result<Vec<Body>, NoRoom>
+) -> Result<Vec<Body>, Lack>
     ensures grows { Grows terms.old terms.new }
     ensures texts { terms.new.texts ≡ terms.old.texts }
     ensures stand { IfOk result (λ v. (xs : List L.Definition) (r : Ref) → AreMeanings xs terms.old names.now known.now own.now → IsRef terms.old call r → AreBodies terms.new v.items (bodies xs r)) }
 {
     is_table(terms);
     let Some(row) = terms.row(call) else {
-        return Err(NoRoom);
+        return Err(Lack::Memory);
     };
     let Some(name) = name_at(names, row.text) else {
-        return Err(NoRoom);
+        return Err(Lack::Memory);
     };
     let arguments = arguments_of(alloc, terms, row.first)?;
     take(room, arguments.len())?;
@@ -68,7 +68,7 @@ fn fill_name(
     known: &[Pattern],
     own: &[Pattern],
     arguments: &[u32],
-) -> Result<Vec<Body>, NoRoom>
+) -> Result<Vec<Body>, Lack>
     ensures grows { Grows terms.old terms.new }
     ensures texts { terms.new.texts ≡ terms.old.texts }
     ensures stand { IfOk result (λ v. (xs : List L.Definition) (n : Text) (ts : List Term) → IsStanding xs n (standing name.now) → ArePatterns terms.old known.now prelude → ArePatterns terms.old own.now xs → AreTrees terms.old arguments.now (term_trees ts) → AreBodies terms.new v.items (filled_bodies ts (definitions_of xs n))) }
@@ -95,7 +95,7 @@ fn fill_known(
     place: Option<usize>,
     patterns: &[Pattern],
     arguments: &[u32],
-) -> Result<Vec<Body>, NoRoom>
+) -> Result<Vec<Body>, Lack>
     ensures grows { Grows terms.old terms.new }
     ensures texts { terms.new.texts ≡ terms.old.texts }
     ensures stand { IfOk result (λ v. (ds all : List L.Definition) (ts : List Term) → AreAt all (as_list place) ds → ArePatterns terms.old patterns.now all → AreTrees terms.old arguments.now (term_trees ts) → AreBodies terms.new v.items (filled_bodies ts ds)) }
@@ -117,7 +117,7 @@ fn fill_own(
     patterns: &[Pattern],
     arguments: &[u32],
     mut bodies: Vec<Body>,
-) -> Result<Vec<Body>, NoRoom>
+) -> Result<Vec<Body>, Lack>
     ensures grows { Grows terms.old terms.new }
     ensures texts { terms.new.texts ≡ terms.old.texts }
     ensures stand { IfOk result (λ v. (ds all : List L.Definition) (ts : List Term) (before : List L.Body) → AreAt all places.now ds → ArePatterns terms.old patterns.now all → AreTrees terms.old arguments.now (term_trees ts) → AreBodies terms.old bodies.items before → AreBodies terms.new v.items (before ++ filled_bodies ts ds)) }
@@ -138,14 +138,14 @@ fn fill_at(
     place: usize,
     patterns: &[Pattern],
     arguments: &[u32],
-) -> Result<Body, NoRoom>
+) -> Result<Body, Lack>
     ensures grows { Grows terms.old terms.new }
     ensures texts { terms.new.texts ≡ terms.old.texts }
     ensures stands { IfOk result (λ b. (all : List L.Definition) (d : L.Definition) (ts : List Term) → slice_get all place ≡ Some d → ArePatterns terms.old patterns.now all → AreTrees terms.old arguments.now (term_trees ts) → IsBody terms.new b (fill_body d.parameters ts d.body)) }
 {
     filled_trees();
     let Some(pattern) = pattern_at(patterns, place) else {
-        return Err(NoRoom);
+        return Err(Lack::Memory);
     };
     let rows = terms.len();
     let row = pattern.template.fill(alloc, terms, arguments)?;

@@ -15,10 +15,12 @@ ghost use Rattle.check_instances.specs.Steps.{rows_of};
 
 use crate::bodies::bodies_of;
 use crate::laws::patterns_grow;
+use crate::outlines::outlines;
 use crate::patterns::{Pattern, patterns};
+use crate::room::Lack;
 use crate::search::Search;
-use check_names::environment::Name;
 use check_names::environment::laws::names_stand;
+use check_names::environment::{Name, names};
 use check_terms::laws::{equal_numbers, growing_keeps};
 use check_terms::{Body, Definition, Form, NoRoom, Row, Terms, push};
 use rooms::Room;
@@ -62,10 +64,12 @@ pub enum Found {
 /// instances than may be the search ends at once. Nothing recurses.
 ///
 /// The arguments and the bodies of all instances, and the rows that are added for these, are at most 524,288 and two for each
-/// definition and each row that the table has before.
+/// definition and each row that the table has before. Where they are more, the search begins anew with the references of the
+/// bodies alone, to see whether there are too many instances; and this search has room for as much.
 ///
-/// An error comes where memory is refused, where there are more of these, or where each number of 32 bits is taken; then some rows
-/// may have been added. It may come, too, where a number is not of this table.
+/// An error comes where memory is refused, where there are more of these in both searches or there are not too many instances, or
+/// where each number of 32 bits is taken; then some rows may have been added. It may come, too, where a number is not of this
+/// table.
 pub fn instances(
     alloc: Global,
     terms: &mut Terms<'_>,
@@ -79,12 +83,13 @@ pub fn instances(
     ensures found { IfOk result (λ f. (xs : List L.Definition) (n : Text) (count : ℕ) → AreDefinitions terms.old known.now prelude → AreDefinitions terms.old definitions.now xs → AreNames count known.now definitions.now names.now → slice_get terms.old.texts root ≡ Some n → IsFound xs n terms.new f) }
 {
     growing_keeps();
-    patterns_grow();
-    names_stand();
-    let known = patterns(alloc, terms, known)?;
-    let own = patterns(alloc, terms, definitions)?;
     let call = root_call(terms, root)?;
-    search_from(alloc, terms, names, &known, &own, call)
+    let rows = terms.len().saturating_add(definitions.len());
+    match instances_of(alloc, rows, terms, names, known, definitions, call) {
+        Ok(found) => Ok(found),
+        Err(Lack::Memory) => Err(NoRoom),
+        Err(Lack::Room) => count_outlines(alloc, rows, terms, known, definitions, call),
+    }
 }
 
 // The reference to the name without arguments.
@@ -111,25 +116,67 @@ fn root_call(terms: &mut Terms<'_>, root: u32) -> Result<u32, NoRoom>
     })
 }
 
+// Says that there are too many where the outlines of the definitions have too many; else there is no room.
+fn count_outlines(
+    alloc: Global,
+    rows: usize,
+    terms: &mut Terms<'_>,
+    known: &[Definition],
+    definitions: &[Definition],
+    root: u32,
+) -> Result<Found, NoRoom>
+    ensures grows { Grows terms.old terms.new }
+    ensures texts { terms.new.texts ≡ terms.old.texts }
+    ensures found { IfOk result (λ f. (xs : List L.Definition) (n : Text) → AreDefinitions terms.old known.now prelude → AreDefinitions terms.old definitions.now xs → IsRef terms.old root (L.call n no_terms) → IsFound xs n terms.new f) }
+{
+    growing_keeps();
+    let outlines = outlines(alloc, terms, definitions)?;
+    let Ok(names) = names(alloc, terms.text_count(), known, &outlines) else {
+        return Err(NoRoom);
+    };
+    match instances_of(alloc, rows, terms, &names, known, &outlines, root) {
+        Ok(Found::TooMany) => Ok(Found::TooMany),
+        _ => Err(NoRoom),
+    }
+}
+
+// The instances, with room for so many rows and definitions.
+fn instances_of(
+    alloc: Global,
+    rows: usize,
+    terms: &mut Terms<'_>,
+    names: &[Name],
+    known: &[Definition],
+    definitions: &[Definition],
+    root: u32,
+) -> Result<Found, Lack>
+    ensures grows { Grows terms.old terms.new }
+    ensures texts { terms.new.texts ≡ terms.old.texts }
+    ensures found { IfOk result (λ f. (xs : List L.Definition) (n : Text) (count : ℕ) → AreDefinitions terms.old known.now prelude → AreDefinitions terms.old definitions.now xs → AreNames count known.now definitions.now names.now → IsRef terms.old root (L.call n no_terms) → IsFound xs n terms.new f) }
+{
+    growing_keeps();
+    names_stand();
+    let known = patterns(alloc, terms, known)?;
+    let own = patterns(alloc, terms, definitions)?;
+    let room = Room::new(FILLED_ROWS, FILLED_ROWS_OF_A_ROW, rows);
+    search_from(alloc, room, terms, names, &known, &own, root)
+}
+
 fn search_from(
     alloc: Global,
+    mut room: Room,
     terms: &mut Terms<'_>,
     names: &[Name],
     known: &[Pattern],
     own: &[Pattern],
     root: u32,
-) -> Result<Found, NoRoom>
+) -> Result<Found, Lack>
     ensures grows { Grows terms.old terms.new }
     ensures texts { terms.new.texts ≡ terms.old.texts }
     ensures found { IfOk result (λ f. (xs : List L.Definition) (n : Text) → AreMeanings xs terms.old names.now known.now own.now → IsRef terms.old root (L.call n no_terms) → IsFound xs n terms.new f) }
 {
     growing_keeps();
     patterns_grow();
-    let mut room = Room::new(
-        FILLED_ROWS,
-        FILLED_ROWS_OF_A_ROW,
-        terms.len().saturating_add(own.len()),
-    );
     let mut search = begin(alloc, terms, root)?;
     let mut found = Vec::new(alloc);
     while let Some(call) = search.reference(found.len()) {
@@ -173,7 +220,7 @@ fn follow(
     known: &[Pattern],
     own: &[Pattern],
     call: u32,
-) -> Result<Instance, NoRoom>
+) -> Result<Instance, Lack>
     ensures grows { Grows terms.old terms.new }
     ensures texts { terms.new.texts ≡ terms.old.texts }
     ensures call { IfOk result (λ i. i.call ≡ call) }

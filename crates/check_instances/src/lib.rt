@@ -8,6 +8,7 @@ mod found;
 pub mod laws;
 mod marks;
 pub mod openings;
+mod outlines;
 mod patterns;
 mod room;
 mod search;

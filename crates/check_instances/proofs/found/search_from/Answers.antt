@@ -21,10 +21,10 @@ loop-call-init c =
 
 pub loop-call-smaller : goal.loop-call-smaller
 loop-call-smaller c =
-    let within = slice_get_within c.loop-call.search.refs.items c.len-in-loop-call.result c.in-Some.call (sym c.reference.ensures ∙ c.in-Some.is) in
+    let within = slice_get_within c.loop-call.search.refs.items c.len.result c.in-Some.call (sym c.reference.ensures ∙ c.in-Some.is) in
     let more = ap length c.in_ok-push.ensures ∙ length_push c.loop-call.found.items c.in_ok-instance.instance in
     let few : length c.loop-call.search.refs.items ≤ most_instances = omega (arith, c.if-len-gt-MOST_INSTANCES.false, c.len-in-Some.ensures, c.loop-call.search.refs.ok.0) in
-    omega (arith, within, more, few, c.len-in-loop-call.ensures, c.loop-call.found.ok.0)
+    omega (arith, within, more, few, c.len.ensures, c.loop-call.found.ok.0)
 
 pub loop-call-preserved : goal.loop-call-preserved
 loop-call-preserved c =
@@ -39,7 +39,7 @@ loop-call-preserved c =
     let inv = c.loop-call.invariant in
     let follows = c.in_ok-instance.ensures in
     let there = sym c.reference.ensures ∙ c.in-Some.is in
-    let next = subst (λ j. slice_get s.refs.items j ≡ Some c.in-Some.call) (c.len-in-loop-call.ensures ∙ c.loop-call.found.ok.0) there in
+    let next = subst (λ j. slice_get s.refs.items j ≡ Some c.in-Some.call) (c.len.ensures ∙ c.loop-call.found.ok.0) there in
     let within = slice_get_within s.refs.items (length found) c.in-Some.call next in
     let more = ap length c.in_ok-push.ensures ∙ length_push found one in
     let all_few : length s.refs.items ≤ most_instances = omega (arith, c.if-len-gt-MOST_INSTANCES.false, c.len-in-Some.ensures, c.loop-call.search.refs.ok.0) in
@@ -66,5 +66,5 @@ returns-clause-found c = λ xs n means h.
     let s = c.loop-call.search in
     let found = c.loop-call.found.items in
     let inv = c.loop-call.invariant in
-    let last = subst (λ j. slice_get s.refs.items j ≡ None) (c.len-in-loop-call.ensures ∙ c.loop-call.found.ok.0) (sym c.reference.ensures ∙ c.in_default.is) in
+    let last = subst (λ j. slice_get s.refs.items j ≡ None) (c.len.ensures ∙ c.loop-call.found.ok.0) (sym c.reference.ensures ∙ c.in_default.is) in
     going_ended xs n t c.equal_numbers-2.ensures.reference c.args.root s.marks.items s.refs.items found last (subst (λ ns. IsGoing xs n t c.args.root s.marks.items ns s.refs.items found) inv.none (inv.going xs n means h)) inv.few

@@ -1,0 +1,4 @@
+pub mod Making
+pub mod Parts
+pub mod Reaching
+pub mod Taking
