@@ -16,7 +16,7 @@ told_cause (Missing member) = Told.MemberMissing
 told_cause TooMuch = Told.MemberTooMuch
 told_cause Stray = Told.PairStray
 told_cause (Few key count least) = Told.KeyTooFew count least
-told_cause (Many key count most) = Told.KeyTooMany count most
+told_cause (Many key count most later) = Told.KeyTooMany count most
 told_cause (NothingHeld OneItem) = Told.NoItem
 told_cause (NothingHeld Sequence) = Told.NoSequence
 
@@ -24,7 +24,7 @@ told_cause (NothingHeld Sequence) = Told.NoSequence
 abbrev pub link_in : Cause → List Link
 link_in (Missing member) = L.Type member ∷ []
 link_in (Few key count least) = L.Type key ∷ []
-link_in (Many key count most) = L.Type key ∷ []
+link_in (Many key count most later) = L.Type key ∷ []
 link_in Value = []
 link_in TooMuch = []
 link_in Stray = []

@@ -1,2 +1,4 @@
+mod LastItems
+mod Shares
 mod Steps
 mod Tellings

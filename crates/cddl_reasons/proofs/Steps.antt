@@ -14,10 +14,10 @@ use Rattle.match_moves.specs.declared.questions.Move as C
 use Rattle.table_nodes.specs.declared.nodes.GroupId.{GroupId}
 use Rattle.table_nodes.specs.declared.nodes.TypeId.{TypeId}
 
-asked_push : (os : List Open) (o : Open) → reverse (asked_in (os ++ o ∷ [])) ≡ question_view o.question ∷ reverse (asked_in os)
+pub asked_push : (os : List Open) (o : Open) → reverse (asked_in (os ++ o ∷ [])) ≡ question_view o.question ∷ reverse (asked_in os)
 asked_push os o = ap reverse (map-append (λ (o : Open). question_view o.question) os (o ∷ [])) ∙ reverse-append (asked_in os) (question_view o.question ∷ [])
 
-waits_push : (os : List Open) (o : Open) → reverse (waits_in (os ++ o ∷ [])) ≡ pending_view o.pending ∷ reverse (waits_in os)
+pub waits_push : (os : List Open) (o : Open) → reverse (waits_in (os ++ o ∷ [])) ≡ pending_view o.pending ∷ reverse (waits_in os)
 waits_push os o = ap reverse (map-append (λ (o : Open). pending_view o.pending) os (o ∷ [])) ∙ reverse-append (waits_in os) (pending_view o.pending ∷ [])
 
 module _ (l : Language TypeId GroupId) (first : Question TypeId GroupId) where

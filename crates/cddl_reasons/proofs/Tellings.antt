@@ -1,7 +1,8 @@
 -- What a reason tells.
-use Rattle.std.proofs.Common.{◌≡◌, ◌≢◌, ℕ, ◌+◌, ◌<◌, ◌≤◌, ◌==◌, Bool, true, List, [], ◌∷◌, ◌++◌, Contains, get_or, length, subst, take, append_assoc, arith, ap, sym, ◌∙◌, refl}
+use Rattle.std.proofs.Common.{◌≡◌, ◌≢◌, ℕ, ◌+◌, ◌<◌, ◌≤◌, ◌==◌, Bool, true, List, [], ◌∷◌, ◌++◌, Contains, get_or, length, subst, take, append_assoc, arith, ap, sym, ◌∙◌, refl, ◌||◌, nat_eq, nat_lt}
 use Rattle.std.proofs.lemmas.Bool.Decides.{nat_tests}
 use Rattle.std.proofs.lemmas.List.{append-nil, length_push, length-take, take_all, take_more}
+use Rattle.std.specs.List.{list_any}
 use Rattle.cddl_meaning.specs.Forms as F
 use Rattle.cddl_meaning.specs.Forms.{Language}
 use Rattle.cbor_data.specs.Value.{Value}
@@ -14,7 +15,7 @@ use Rattle.cddl_match.specs.Entering.{EndIn}
 use Rattle.cddl_match.specs.Open.{AreOpenWith, further}
 use Rattle.cddl_match.proofs.Lemmas.{comes_replies}
 use Rattle.cddl_reasons.specs.Opened.{asked_in, waits_in}
-use Rattle.cddl_reasons.specs.Told.{AreReasons, AreSome, IsCause, IsCount, IsEntryOf, IsReason, links_of, part_of, string_of, strings_of, type_of}
+use Rattle.cddl_reasons.specs.Told.{AreReasons, AreSome, IsCause, IsCount, IsEntryOf, IsReason, links_of, part_of, string_of, strings_of, type_of, has_key}
 use Rattle.cddl_reasons.specs.declared.causes.Cause.{Cause}
 use Rattle.cddl_reasons.specs.declared.causes.Cause.TheVariants as C
 use Rattle.cddl_reasons.specs.declared.causes.Reason.{Reason}
@@ -23,6 +24,8 @@ use Rattle.cddl_reasons.specs.declared.run.Open.{Open}
 use Rattle.match_moves.specs.Views.{pending_view, question_view}
 use Rattle.cddl_match.specs.Machine.{root_question}
 use Rattle.table_nodes.specs.Language.{RootSays, language_of}
+use Rattle.table_nodes.specs.Nodes.{entries_view}
+use Rattle.table_nodes.specs.declared.nodes.MapEntry.{MapEntry}
 use Rattle.table_nodes.specs.declared.table.Table.{Table}
 use Rattle.table_nodes.specs.declared.nodes.GroupId.{GroupId}
 use Rattle.table_nodes.specs.declared.nodes.TypeId.{TypeId}
@@ -60,10 +63,8 @@ pub strings_whole : (l : Language TypeId GroupId) (xs : List Open) (i : ℕ) →
 strings_whole l xs i le = ap (λ ys. strings_of l (asked_in ys) (waits_in ys)) (take_all i xs le)
 
 -- the first of the last entries, and those after it
-pub end_has : (es left others : List (F.MapEntry TypeId)) (e : F.MapEntry TypeId) → left ≡ e ∷ others → EndIn es left → Contains es e
-end_has es left others e is h =
-    let whole : es ≡ h.first ++ e ∷ others = h.whole ∙ ap (λ xs. h.first ++ xs) is in
-    subst (λ xs. Contains xs e) (sym whole) (Contains-append_right h.first (e ∷ others) e (0, omega arith, refl))
+pub end_has : (es left others : List (F.MapEntry TypeId)) (e : F.MapEntry TypeId) → left ≡ e ∷ others → EndIn es left → EndIn es (e ∷ others)
+end_has es left others e is h = subst (λ xs. EndIn es xs) is h
 
 pub end_next : (es left others : List (F.MapEntry TypeId)) (e : F.MapEntry TypeId) → left ≡ e ∷ others → EndIn es left → EndIn es others
 end_next es left others e is h = record {
@@ -72,14 +73,19 @@ end_next es left others e is h = record {
 }
 
 -- What is so of an entry's count is a cause.
-pub counted_cause : (l : Language TypeId GroupId) (q : Question TypeId GroupId) (far : ℕ) (e : F.MapEntry TypeId) (c : Cause) → IsEntryOf q far e → IsCount e c → IsCause l q far c
-counted_cause l q far e (C.Few key count least) i h = (e, i, h)
-counted_cause l q far e (C.Many key count most) i h = (e, i, h)
-counted_cause l q far e C.Value i h = absurd h
-counted_cause l q far e (C.Missing m) i h = absurd h
-counted_cause l q far e C.TooMuch i h = absurd h
-counted_cause l q far e C.Stray i h = absurd h
-counted_cause l q far e (C.NothingHeld c) i h = absurd h
+pub counted_cause : (l : Language TypeId GroupId) (q : Question TypeId GroupId) (far : ℕ) (e : F.MapEntry TypeId) (es : List (F.MapEntry TypeId)) (c : Cause) → IsEntryOf q far e es → IsCount e es c → IsCause l q far c
+counted_cause l q far e es (C.Few key count least) i h = (e, es, i, h)
+counted_cause l q far e es (C.Many key count most later) i h = (e, es, i, h)
+counted_cause l q far e es C.Value i h = absurd h
+counted_cause l q far e es (C.Missing m) i h = absurd h
+counted_cause l q far e es C.TooMuch i h = absurd h
+counted_cause l q far e es C.Stray i h = absurd h
+counted_cause l q far e es (C.NothingHeld c) i h = absurd h
+
+-- a test of the key types of entries, as the definitions have them
+pub any_key : (key : TypeId) (es : List MapEntry) → list_any (λ (e : MapEntry). nat_eq e.key_type.number key.number) es ≡ has_key key (entries_view es)
+any_key key [] = refl
+any_key key (e ∷ es) = ap (λ (b : Bool). nat_eq e.key_type.number key.number || b) (any_key key es)
 
 -- one more of them, where there is room
 pub pushed_some : (l : Language TypeId GroupId) (first : Question TypeId GroupId) (most : ℕ) (rs : List Reason) (r : Reason) → AreSome l first most rs → IsReason l first r → length rs < most → AreSome l first most (rs ++ r ∷ [])
@@ -87,6 +93,9 @@ pushed_some l first most rs r some is room = (All-push (IsReason l first) rs r s
 
 pub taken_some : (l : Language TypeId GroupId) (first : Question TypeId GroupId) (most n : ℕ) (rs : List Reason) → AreSome l first most rs → AreSome l first most (take n rs)
 taken_some l first most n rs some = (All-take (IsReason l first) n rs some.0, rw (length-take n rs) (le_trans (min-le_right n (length rs)) some.1))
+
+pub room_left : (a b : ℕ) (r : Bool) → r ≡ nat_lt a b → r ≡ true → a < b
+room_left a b r is h = let t : nat_lt a b ≡ true = sym is ∙ h in grind (arith, nat_tests, t)
 
 none_there : (rs : List Reason) (e : Bool) → e ≡ (length rs == 0) → e ≡ true → length rs ≡ 0
 none_there rs e is h = let t : (length rs == 0) ≡ true = sym is ∙ h in grind (arith, nat_tests, t)

@@ -1,2 +1,3 @@
+pub mod Greedy
 pub mod Opened
 pub mod Told

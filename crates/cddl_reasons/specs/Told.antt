@@ -1,12 +1,13 @@
 -- What a reason tells: a question that was open, and has failed.
-use Rattle.std.specs.Prelude.{◌≡◌, ◌≢◌, ◌⊎◌, ℕ, ◌<◌, ◌≤◌, List, [], ◌∷◌, ◌++◌, All, Option, Some, None, length, map, reverse}
-use Rattle.std.specs.List.{Contains}
+use Rattle.std.specs.Prelude.{◌≡◌, ◌≢◌, ◌⊎◌, ℕ, ◌<◌, ◌≤◌, Bool, List, [], ◌∷◌, ◌++◌, All, Option, Some, None, length, map, nat_eq, reverse}
+use Rattle.std.specs.List.{list_any}
 use Rattle.cbor_data.specs.Value.{Value}
 use Rattle.cddl_meaning.specs.Forms as F
 use Rattle.cddl_meaning.specs.Forms.{Language}
 use Rattle.cddl_meaning.specs.Judges.{Answer, Yes, No, Fails}
 use Rattle.cddl_meaning.specs.Moves as M
 use Rattle.cddl_meaning.specs.Moves.{Replies}
+use Rattle.cddl_match.specs.Entering.{EndIn}
 use Rattle.cddl_match.specs.Machine.{root_question}
 use Rattle.cddl_match.specs.Open.{AreOpenWith}
 use Rattle.table_nodes.specs.Language.{RootSays, language_of}
@@ -16,6 +17,7 @@ use Rattle.table_nodes.specs.declared.nodes.TypeId.{TypeId}
 use Rattle.table_nodes.specs.declared.table.Table.{Table}
 use Rattle.type_links.specs.declared.link.Link.{Link}
 use Rattle.type_links.specs.declared.link.Link.TheVariants as L
+use Rattle.cddl_reasons.specs.Greedy.{is_greedy}
 use Rattle.cddl_reasons.specs.declared.causes.Cause.{Cause}
 use Rattle.cddl_reasons.specs.declared.causes.Cause.TheVariants as C
 use Rattle.cddl_reasons.specs.declared.causes.Holder.{Holder}
@@ -89,16 +91,24 @@ abbrev pub IsUnheld : Language TypeId GroupId → M.Question TypeId GroupId → 
 IsUnheld l (M.OfType n p x) c = (m : TypeId) × (k : TypeId) × (l.type_at n ≡ F.Holding m c k)
 IsUnheld l _ c = ⊥
 
--- So many pairs are too few for an entry, or too many.
-abbrev pub IsCount : F.MapEntry TypeId → Cause → Type 0
-IsCount e (C.Few key count least) = (key ≡ e.key_type) × (least ≡ e.least) × (count < least)
-IsCount e (C.Many key count most) = (key ≡ e.key_type) × (F.at_most most ≡ e.most) × (most < count)
-IsCount e _ = ⊥
+-- one of these entries has this key type
+abbrev pub has_key : TypeId → List (F.MapEntry TypeId) → Bool
+has_key key es = list_any (λ e. nat_eq e.key_type.number key.number) es
 
--- It is an entry of the alternative, whose no shows at the map.
-abbrev pub IsEntryOf : M.Question TypeId GroupId → (far : ℕ) → F.MapEntry TypeId → Type 0
-IsEntryOf (M.OfAlternative es base ps) far e = (far ≡ base) × Contains es e
-IsEntryOf _ far e = ⊥
+-- So many pairs are too few for an entry with these after it, or too many.
+abbrev pub IsCount : F.MapEntry TypeId → List (F.MapEntry TypeId) → Cause → Type 0
+IsCount e es (C.Few key count least) = (key ≡ e.key_type) × (least ≡ e.least) × (count < least)
+IsCount e es (C.Many key count most later) = (key ≡ e.key_type) × (F.at_most most ≡ e.most) × (most < count) × (later ≡ has_key key es)
+IsCount e es _ = ⊥
+
+-- It is an entry of the alternative, with these after it, and the no of the alternative shows at the map.
+abbrev pub IsEntryOf : M.Question TypeId GroupId → (far : ℕ) → F.MapEntry TypeId → List (F.MapEntry TypeId) → Type 0
+IsEntryOf (M.OfAlternative all base ps) far e es = (far ≡ base) × EndIn all (e ∷ es)
+IsEntryOf _ far e es = ⊥
+
+-- The entry of an alternative, with some after it, to which so many pairs belong.
+abbrev pub IsCounted : M.Question TypeId GroupId → (far : ℕ) → Cause → Type 0
+IsCounted q far c = (e : F.MapEntry TypeId) × (es : List (F.MapEntry TypeId)) × IsEntryOf q far e es × IsCount e es c
 
 -- Of this question, which has failed at this place, the cause tells what it is.
 abbrev pub IsCause : Language TypeId GroupId → M.Question TypeId GroupId → (far : ℕ) → Cause → Type 0
@@ -106,8 +116,8 @@ IsCause l q far C.Value = Unit {0}
 IsCause l q far (C.Missing m) = IsMissing l q m
 IsCause l q far C.TooMuch = IsTooMuch l q far
 IsCause l q far C.Stray = IsStray q far
-IsCause l q far (C.Few key count least) = (e : F.MapEntry TypeId) × IsEntryOf q far e × IsCount e (C.Few key count least)
-IsCause l q far (C.Many key count most) = (e : F.MapEntry TypeId) × IsEntryOf q far e × IsCount e (C.Many key count most)
+IsCause l q far (C.Few key count least) = IsCounted q far (C.Few key count least)
+IsCause l q far (C.Many key count most later) = IsCounted q far (C.Many key count most later)
 IsCause l q far (C.NothingHeld c) = IsUnheld l q (content_view c)
 
 -- The reason is a question that was open, the last of those that were, and has failed at that place.
@@ -122,6 +132,7 @@ pub record IsReason (l : Language TypeId GroupId) (first : M.Question TypeId Gro
   pub links : r.links.items ≡ links_of before waits ++ type_of last
   pub strings : map holder_view r.strings.items ≡ strings_of l before waits
   pub cause : IsCause l last r.place r.cause
+  pub greedy : r.greedy ≡ is_greedy l (reverse before) (reverse waits)
 
 -- These are reasons, and no more of them than that.
 abbrev pub AreSome : Language TypeId GroupId → M.Question TypeId GroupId → (most : ℕ) → List Reason → Type 0

@@ -16,8 +16,13 @@ pub enum Cause {
     Stray,
     /// So many pairs of the map at the place belong to the entry with this key type, and more are wanted.
     Few { key: TypeId, count: u64, least: u64 },
-    /// The same, and fewer are wanted.
-    Many { key: TypeId, count: u64, most: u64 },
+    /// The same, and fewer are wanted. `later` says whether an entry after that one has the same key type.
+    Many {
+        key: TypeId,
+        count: u64,
+        most: u64,
+        later: bool,
+    },
     /// The byte string at the place holds no item, or no sequence. The last type is the control's.
     NothingHeld { content: Content },
 }
@@ -42,6 +47,11 @@ pub struct Reason {
     /// Where it has failed: in the item, or in what the last of these strings holds.
     pub place: usize,
     pub cause: Cause,
+    /// Whether, of the last open questions, the first one that was asked of any items is a sequence of which a part before the one
+    /// that is asked now has taken the last item, and need not have: an occurrence, which gives nothing back (RFC 8610 appendix A).
+    /// That is told where the number of items leaves nothing else, whatever each part has taken; and only where each of them that
+    /// matters has rounds of one item.
+    pub greedy: bool,
 }
 
 /// Why an item does not match.

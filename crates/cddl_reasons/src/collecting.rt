@@ -138,6 +138,7 @@ fn root_reason(
         strings,
         place,
         cause: Cause::Value,
+        greedy: false,
     })
 }
 

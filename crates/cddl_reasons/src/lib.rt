@@ -5,9 +5,11 @@ mod aims;
 mod causes;
 mod collecting;
 mod found;
+mod greedy;
 mod run;
 mod telling;
 mod turns;
 
 pub use crate::causes::{Cause, Holder, Reason, Reasons};
 pub use crate::collecting::find_reasons;
+pub use crate::greedy::greedy_is_certain;

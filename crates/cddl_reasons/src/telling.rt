@@ -1,23 +1,26 @@
 //! What is told of a question that has failed.
 
-ghost use Rattle.std.specs.Prelude.{◌≡◌, ◌++◌, ℕ, List, [], IfOk, IfSome, map};
+ghost use Rattle.std.specs.Prelude.{◌≡◌, ◌++◌, ◌∷◌, ℕ, List, [], IfOk, IfSome, length, map, nat_eq, nat_lt};
 ghost use Rattle.std.specs.Option.{option_map};
-ghost use Rattle.std.specs.List.{Contains};
+ghost use Rattle.std.specs.List.{list_any};
 ghost use Rattle.cbor_data.specs.Value.{Pairs, Value};
 ghost use Rattle.cddl_meaning.specs.Forms as F;
 ghost use Rattle.cddl_meaning.specs.Judges as J;
 ghost use Rattle.cddl_meaning.specs.Moves as M;
+ghost use Rattle.cddl_match.specs.Entering.{EndIn};
 ghost use Rattle.cddl_reasons.specs.Opened.{StandsAt, asked_in, waits_in};
-ghost use Rattle.cddl_reasons.specs.Told.{AreSome, IsCause, IsCount, IsEntryOf, IsReason, content_in, content_of, holder_view, links_of, part_of, string_of, strings_of, type_of};
+ghost use Rattle.cddl_reasons.specs.Told.{AreSome, IsCause, IsCount, IsEntryOf, IsReason, content_in, content_of, holder_view, links_of, part_of, string_of, strings_of, type_of, has_key};
 ghost use Rattle.match_moves.specs.Views.{pending_group_view, pending_map_view, pending_view, question_view, reply_view, values};
 ghost use Rattle.table_nodes.specs.Language.{language_of};
 ghost use Rattle.table_nodes.specs.Nodes.{content_view, entries_view, entry_view, type_view};
 ghost use Rattle.table_nodes.specs.declared.nodes.GroupId.{GroupId};
+ghost use Rattle.table_nodes.specs.declared.nodes.MapEntry.{MapEntry as AnEntry};
 ghost use Rattle.table_nodes.specs.declared.nodes.TypeId.{TypeId};
 
 use crate::aims::{Aim, is_at};
 use crate::causes::{Cause, Holder, Reason};
 use crate::found::{Deeper, Found};
+use crate::greedy::is_greedy;
 use crate::run::{Open, Run, Wanted};
 use item_nodes::Item;
 use match_moves::{Counts, Pending, PendingGroup, PendingMap, PendingType, Question, Reply};
@@ -200,9 +203,34 @@ fn count_at(last: &Open<'_, '_>, number: usize) -> u64 {
     }
 }
 
-// What is wrong, if something is, where so many pairs belong to an entry.
-fn count_cause(entry: &MapEntry, count: u64) -> Option<Cause>
-    ensures { IfSome result (λ cause. IsCount (entry_view entry.now) cause) }
+// Whether so many pairs are as many as an entry asks for.
+fn is_enough(entry: &MapEntry, count: u64) -> bool {
+    let fits = match entry.most {
+        Most::AtMost(most) => count <= most,
+        Most::Any => true,
+    };
+    fits && entry.least <= count
+}
+
+// Whether one of these entries has this key type.
+fn any_has_key(entries: &[MapEntry], key: TypeId) -> bool
+    ensures { result ≡ list_any (λ (e : AnEntry). nat_eq e.key_type.number key.number) entries.now }
+{
+    entries
+        .iter()
+        .any(|entry| entry.key_type.number == key.number)
+}
+
+// The same, of entries as contracts see them.
+fn has_key(entries: &[MapEntry], key: TypeId) -> bool
+    ensures { result ≡ has_key key (entries_view entries.now) }
+{
+    any_has_key(entries, key)
+}
+
+// What is wrong, if something is, where so many pairs belong to an entry with these after it.
+fn count_cause(entry: &MapEntry, others: &[MapEntry], count: u64) -> Option<Cause>
+    ensures { IfSome result (λ cause. IsCount (entry_view entry.now) (entries_view others.now) cause) }
 {
     if count < entry.least {
         return Some(Cause::Few {
@@ -216,6 +244,7 @@ fn count_cause(entry: &MapEntry, count: u64) -> Option<Cause>
             key: entry.key_type,
             count,
             most,
+            later: has_key(others, entry.key_type),
         }),
         _ => None,
     }
@@ -303,11 +332,13 @@ fn reason_of(
     let mut links = links_in(alloc, below)?;
     push_type(&mut links, &run.last.question)?;
     let strings = strings_in(alloc, table, below)?;
+    let greedy = is_greedy(table, below);
     Ok(Reason {
         links,
         strings,
         place: far,
         cause,
+        greedy,
     })
 }
 
@@ -330,6 +361,13 @@ fn deeper_of(last: &Open<'_, '_>, far: usize) -> Option<Deeper> {
     }
 }
 
+// Whether the list has room for one reason more.
+fn has_room(found: &Found, aim: Aim<'_>) -> bool
+    ensures { result ≡ nat_lt (length found.now.list.items) aim.entry.most }
+{
+    found.list.len() < aim.most
+}
+
 // The last question has failed at this place, for this cause: one reason more, in the list if that has room.
 fn tell_cause(
     table: &Table,
@@ -341,7 +379,7 @@ fn tell_cause(
 ) -> Result<(), AllocError>
     ensures { IfOk result (λ _. (first : M.Question TypeId GroupId) → IsCause (language_of table.now) (question_view run.now.last.question) far cause → StandsAt (language_of table.now) first run.now.below.items run.now.last (M.Answered (J.Fails far)) → AreSome (language_of table.now) first aim.entry.most found.old.list.items → AreSome (language_of table.now) first aim.entry.most found.new.list.items) }
 {
-    if found.list.len() >= aim.most {
+    if !has_room(found, aim) {
         found.more = found.more.saturating_add(1);
         return Ok(());
     }
@@ -350,19 +388,25 @@ fn tell_cause(
     Ok(())
 }
 
-// An entry of the last question, an alternative of a map that has failed at the map, to which so many pairs belong.
+// An entry of the last question, an alternative of a map that has failed at the map, to which so many pairs belong. Those after it
+// are looked at where there is room for the reason.
 fn tell_count(
     table: &Table,
     run: &Run<'_, '_>,
     entry: &MapEntry,
+    others: &[MapEntry],
     count: u64,
     far: usize,
     aim: Aim<'_>,
     found: &mut Found,
 ) -> Result<(), AllocError>
-    ensures { IfOk result (λ _. (first : M.Question TypeId GroupId) → IsEntryOf (question_view run.now.last.question) far (entry_view entry.now) → StandsAt (language_of table.now) first run.now.below.items run.now.last (M.Answered (J.Fails far)) → AreSome (language_of table.now) first aim.entry.most found.old.list.items → AreSome (language_of table.now) first aim.entry.most found.new.list.items) }
+    ensures { IfOk result (λ _. (first : M.Question TypeId GroupId) → IsEntryOf (question_view run.now.last.question) far (entry_view entry.now) (entries_view others.now) → StandsAt (language_of table.now) first run.now.below.items run.now.last (M.Answered (J.Fails far)) → AreSome (language_of table.now) first aim.entry.most found.old.list.items → AreSome (language_of table.now) first aim.entry.most found.new.list.items) }
 {
-    let Some(cause) = count_cause(entry, count) else {
+    if !is_enough(entry, count) && !has_room(found, aim) {
+        found.more = found.more.saturating_add(1);
+        return Ok(());
+    }
+    let Some(cause) = count_cause(entry, others, count) else {
         return Ok(());
     };
     tell_cause(table, run, far, cause, aim, found)?;
@@ -379,13 +423,13 @@ fn tell_entries(
     aim: Aim<'_>,
     found: &mut Found,
 ) -> Result<(), AllocError>
-    ensures { IfOk result (λ _. (first : M.Question TypeId GroupId) → ((e : F.MapEntry TypeId) → Contains (entries_view entries.now) e → IsEntryOf (question_view run.now.last.question) far e) → StandsAt (language_of table.now) first run.now.below.items run.now.last (M.Answered (J.Fails far)) → AreSome (language_of table.now) first aim.entry.most found.old.list.items → AreSome (language_of table.now) first aim.entry.most found.new.list.items) }
+    ensures { IfOk result (λ _. (first : M.Question TypeId GroupId) → ((e : F.MapEntry TypeId) (es : List (F.MapEntry TypeId)) → EndIn (entries_view entries.now) (e ∷ es) → IsEntryOf (question_view run.now.last.question) far e es) → StandsAt (language_of table.now) first run.now.below.items run.now.last (M.Answered (J.Fails far)) → AreSome (language_of table.now) first aim.entry.most found.old.list.items → AreSome (language_of table.now) first aim.entry.most found.new.list.items) }
 {
     let mut left = entries;
     let mut number: usize = 0;
     'each: while let Some((entry, others)) = left.split_first() {
         let count = count_at(&run.last, number);
-        tell_count(table, run, entry, count, far, aim, found)?;
+        tell_count(table, run, entry, others, count, far, aim, found)?;
         number = number.saturating_add(1);
         left = others;
     }

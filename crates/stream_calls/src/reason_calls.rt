@@ -31,7 +31,8 @@ pub(crate) fn push_reasons(
     }
 }
 
-// What led there, the strings in whose content it is, of a sequence with `*`, the place, and the cause.
+// What led there, the strings in whose content it is, of a sequence with `*`, the place, the cause, and whether a part before took
+// what it need not have.
 fn push_reason(alloc: Global, reason: &Reason, out: &mut String) -> Result<(), AllocError> {
     out.push_str(", ")?;
     for link in &reason.links {
@@ -47,7 +48,8 @@ fn push_reason(alloc: Global, reason: &Reason, out: &mut String) -> Result<(), A
         })?;
     }
     push_number(alloc, reason.place as u64, out)?;
-    push_cause(alloc, reason.cause, out)
+    push_cause(alloc, reason.cause, out)?;
+    push_if(reason.greedy, " greedy", out)
 }
 
 // The number of a type; and of an alternative or an entry how many come after it.
@@ -75,9 +77,15 @@ fn push_cause(alloc: Global, cause: Cause, out: &mut String) -> Result<(), Alloc
             push_named(alloc, " few of ", key.number, out)?;
             push_counts(alloc, count, " < ", least, out)
         }
-        Cause::Many { key, count, most } => {
+        Cause::Many {
+            key,
+            count,
+            most,
+            later,
+        } => {
             push_named(alloc, " many of ", key.number, out)?;
-            push_counts(alloc, count, " > ", most, out)
+            push_counts(alloc, count, " > ", most, out)?;
+            push_if(later, " and later", out)
         }
         Cause::NothingHeld {
             content: Content::OneItem,
@@ -86,6 +94,13 @@ fn push_cause(alloc: Global, cause: Cause, out: &mut String) -> Result<(), Alloc
             content: Content::Sequence,
         } => out.push_str(" no sequence"),
     }
+}
+
+fn push_if(holds: bool, words: &str, out: &mut String) -> Result<(), AllocError> {
+    if holds {
+        out.push_str(words)?;
+    }
+    Ok(())
 }
 
 fn push_named(

@@ -21,4 +21,5 @@ returns c = λ w d.
       links = rw (c.in_ok-push.ensures.items, c.new-links.ensures.items, c.root.ensures) refl;
       strings = ap (λ hs. map holder_view hs) c.new-strings.ensures.items;
       cause = tt;
+      greedy = refl;
     }

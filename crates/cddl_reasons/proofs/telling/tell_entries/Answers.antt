@@ -18,7 +18,7 @@ each-preserved c =
     let is : left ≡ e ∷ others = ap entries_view c.in-Some.ensures.cases.0 in
     record {
       end = end_next es left others e is c.each.invariant.end;
-      found = λ first has at a. c.in_ok-tell_count.ensures first (has e (end_has es left others e is c.each.invariant.end)) at (c.each.invariant.found first has at a);
+      found = λ first has at a. c.in_ok-tell_count.ensures first (has e others (end_has es left others e is c.each.invariant.end)) at (c.each.invariant.found first has at a);
     }
 
 pub returns : goal.returns
