@@ -37,7 +37,7 @@ placed x chain (Some p) some none = some
 placed x chain None some none = none
 
 -- the line tells what is found at the place
-pub told_there : (text : List ℕ) (tokens : List Token) (file : List ℕ) (p : Place) (x : Value) (r : Reason) (found : List ℕ) (cause : Cause) (line : List ℕ) → ArePlaceWords (codes "$") x (map holder_view r.strings.items) r.place found → cause ≡ told_cause r.cause → IsLineAt text tokens file p found cause line → IsToldOf text tokens file p x r line
+pub told_there : (text : List ℕ) (tokens : List Token) (file : List ℕ) (p : Place) (x : Value) (r : Reason) (found : List ℕ) (cause : Cause) (line : List ℕ) → ArePlaceWords (codes "$") x (map holder_view r.strings.items) r.place found → cause ≡ told_cause r.greedy r.cause → IsLineAt text tokens file p found cause line → IsToldOf text tokens file p x r line
 told_there text tokens file p x r found cause line words k h = (found, words, subst (λ c. IsLineAt text tokens file p found c line) k h)
 
 pub one_line_more : (text : List ℕ) (tokens : List Token) (file : List ℕ) (sources : Sources) (x : Value) (rs : List Reason) (lines new : List (List ℕ)) (r : Reason) (p : Place) (line : List ℕ) → new ≡ with_line lines line → IsPlaced sources r (Some p) → IsToldOf text tokens file p x r line → AreLines text tokens file sources x rs lines → AreLines text tokens file sources x (rs ++ r ∷ []) new

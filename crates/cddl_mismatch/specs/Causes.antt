@@ -1,5 +1,6 @@
 -- What a reason says, as it is told.
-use Rattle.std.specs.Prelude.{List, [], ◌∷◌, ◌++◌}
+use Rattle.std.specs.Prelude.{Bool, List, [], ◌∷◌, ◌++◌}
+use Rattle.table_nodes.specs.declared.nodes.Content.{Content}
 use Rattle.table_nodes.specs.declared.nodes.Content.TheVariants.{OneItem, Sequence}
 use Rattle.type_links.specs.declared.link.Link.{Link}
 use Rattle.type_links.specs.declared.link.Link.TheVariants as L
@@ -9,16 +10,21 @@ use Rattle.cddl_reasons.specs.declared.causes.Reason.{Reason}
 use Rattle.mismatch_words.specs.declared.causes.Cause as W
 use Rattle.mismatch_words.specs.declared.causes.Cause.TheVariants as Told
 
--- the cause, without the types that it names
-abbrev pub told_cause : Cause → W.Cause
-told_cause Value = Told.Value
-told_cause (Missing member) = Told.MemberMissing
-told_cause TooMuch = Told.MemberTooMuch
-told_cause Stray = Told.PairStray
-told_cause (Few key count least) = Told.KeyTooFew count least
-told_cause (Many key count most later) = Told.KeyTooMany count most
-told_cause (NothingHeld OneItem) = Told.NoItem
-told_cause (NothingHeld Sequence) = Told.NoSequence
+-- of a byte string that holds nothing of the kind
+abbrev pub nothing_held : Content → W.Cause
+nothing_held OneItem = Told.NoItem
+nothing_held Sequence = Told.NoSequence
+
+-- the cause, without the types that it names; of a member that is missing also whether an entry before it has taken what it need not
+-- have
+abbrev pub told_cause : (greedy : Bool) → Cause → W.Cause
+told_cause greedy Value = Told.Value
+told_cause greedy (Missing member) = Told.MemberMissing greedy
+told_cause greedy TooMuch = Told.MemberTooMuch
+told_cause greedy Stray = Told.PairStray
+told_cause greedy (Few key count least) = Told.KeyTooFew count least
+told_cause greedy (Many key count most later) = Told.KeyTooMany count most later
+told_cause greedy (NothingHeld content) = nothing_held content
 
 -- the link to the type of a member or of a key that it names
 abbrev pub link_in : Cause → List Link

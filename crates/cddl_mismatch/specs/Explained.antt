@@ -43,7 +43,7 @@ IsPlaced x r p = IsPlaceOf x (chain_of r) p
 module _ (text : List ℕ) (tokens : List Token) (file : List ℕ) where
   -- The line tells the place and what is there, in byte strings too, where the type stands, and what is wrong.
   abbrev pub IsToldOf : Place → Value → Reason → List ℕ → Type 0
-  IsToldOf p x r line = (found : List ℕ) × ArePlaceWords (codes "$") x (map holder_view r.strings.items) r.place found × IsLineAt text tokens file p found (told_cause r.cause) line
+  IsToldOf p x r line = (found : List ℕ) × ArePlaceWords (codes "$") x (map holder_view r.strings.items) r.place found × IsLineAt text tokens file p found (told_cause r.greedy r.cause) line
 
   -- The lines of these reasons, in order: one for each whose types stand in the text, but for one that is there already.
   pub data AreLines (sources : Sources) (x : Value) : List Reason → List (List ℕ) → Type 0 where

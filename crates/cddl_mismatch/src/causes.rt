@@ -1,7 +1,7 @@
 //! What a reason says, as it is told.
 
 ghost use Rattle.std.specs.Prelude.{◌≡◌, ◌++◌, IfOk};
-ghost use Rattle.cddl_mismatch.specs.Causes.{chain_of, link_in, told_cause};
+ghost use Rattle.cddl_mismatch.specs.Causes.{chain_of, link_in, nothing_held, told_cause};
 
 use cddl_reasons::{Cause, Reason};
 use mismatch_words::Cause as Told;
@@ -9,23 +9,29 @@ use std::alloc::{AllocError, Global};
 use table_nodes::Content;
 use type_links::Link;
 
-// The cause, without the types that it names.
-pub(crate) fn told_cause(cause: Cause) -> Told
-    ensures { result ≡ told_cause cause }
+// The cause, without the types that it names; of a member that is missing also whether an entry before it has taken what it need
+// not have.
+pub(crate) fn told_cause(greedy: bool, cause: Cause) -> Told
+    ensures { result ≡ told_cause greedy cause }
 {
     match cause {
         Cause::Value => Told::Value,
-        Cause::Missing { .. } => Told::MemberMissing,
+        Cause::Missing { .. } => Told::MemberMissing { greedy },
         Cause::TooMuch => Told::MemberTooMuch,
         Cause::Stray => Told::PairStray,
         Cause::Few { count, least, .. } => Told::KeyTooFew { count, least },
-        Cause::Many { count, most, .. } => Told::KeyTooMany { count, most },
+        Cause::Many {
+            count,
+            most,
+            later,
+            ..
+        } => Told::KeyTooMany { count, most, later },
         Cause::NothingHeld { content } => nothing_held(content),
     }
 }
 
 fn nothing_held(content: Content) -> Told
-    ensures { result ≡ told_cause (Cause.NothingHeld content) }
+    ensures { result ≡ nothing_held content }
 {
     match content {
         Content::OneItem => Told::NoItem,

@@ -107,6 +107,6 @@ fn line_of(
         source,
         place,
         found.as_str(),
-        told_cause(reason.cause),
+        told_cause(reason.greedy, reason.cause),
     )
 }
