@@ -64,12 +64,13 @@ pub enum Found {
 /// instances than may be the search ends at once. Nothing recurses.
 ///
 /// The arguments and the bodies of all instances, and the rows that are added for these, are at most 524,288 and two for each
-/// definition and each row that the table has before. Where they are more, the search begins anew with the references of the
-/// bodies alone, to see whether there are too many instances; and this search has room for as much.
+/// definition and each row that the table has before. Where they are more, a second search goes through the references of the
+/// bodies alone, only to see whether there are too many instances. Its arguments, bodies and rows are at most 524,288 again, beside
+/// rows in proportion to the text, which it needs to begin.
 ///
-/// An error comes where memory is refused, where there are more of these in both searches or there are not too many instances, or
-/// where each number of 32 bits is taken; then some rows may have been added. It may come, too, where a number is not of this
-/// table.
+/// An error comes where memory is refused or each number of 32 bits is taken, and where there are more of these than there is room
+/// for and the second search does not find too many instances; then some rows may have been added. It may come, too, where a
+/// number is not of this table.
 pub fn instances(
     alloc: Global,
     terms: &mut Terms<'_>,
@@ -85,10 +86,11 @@ pub fn instances(
     growing_keeps();
     let call = root_call(terms, root)?;
     let rows = terms.len().saturating_add(definitions.len());
-    match instances_of(alloc, rows, terms, names, known, definitions, call) {
+    let room = Room::new(FILLED_ROWS, FILLED_ROWS_OF_A_ROW, rows);
+    match instances_of(alloc, room, terms, names, known, definitions, call) {
         Ok(found) => Ok(found),
         Err(Lack::Memory) => Err(NoRoom),
-        Err(Lack::Room) => count_outlines(alloc, rows, terms, known, definitions, call),
+        Err(Lack::Room) => count_outlines(alloc, terms, known, definitions, call),
     }
 }
 
@@ -119,7 +121,6 @@ fn root_call(terms: &mut Terms<'_>, root: u32) -> Result<u32, NoRoom>
 // Says that there are too many where the outlines of the definitions have too many; else there is no room.
 fn count_outlines(
     alloc: Global,
-    rows: usize,
     terms: &mut Terms<'_>,
     known: &[Definition],
     definitions: &[Definition],
@@ -134,16 +135,17 @@ fn count_outlines(
     let Ok(names) = names(alloc, terms.text_count(), known, &outlines) else {
         return Err(NoRoom);
     };
-    match instances_of(alloc, rows, terms, &names, known, &outlines, root) {
+    let room = Room::new(FILLED_ROWS, 0, 0);
+    match instances_of(alloc, room, terms, &names, known, &outlines, root) {
         Ok(Found::TooMany) => Ok(Found::TooMany),
         _ => Err(NoRoom),
     }
 }
 
-// The instances, with room for so many rows and definitions.
+// The instances, whose bodies, rows in them and arguments take this room.
 fn instances_of(
     alloc: Global,
-    rows: usize,
+    room: Room,
     terms: &mut Terms<'_>,
     names: &[Name],
     known: &[Definition],
@@ -158,7 +160,6 @@ fn instances_of(
     names_stand();
     let known = patterns(alloc, terms, known)?;
     let own = patterns(alloc, terms, definitions)?;
-    let room = Room::new(FILLED_ROWS, FILLED_ROWS_OF_A_ROW, rows);
     search_from(alloc, room, terms, names, &known, &own, root)
 }
 
