@@ -38,24 +38,35 @@ pub fn append_det(
         Item::Nint(n) => append_number(1, *n, place, out),
         Item::Bytes(bytes) => append_string(2, bytes.as_slice(), place, out),
         Item::Text(text) => append_string(3, text.as_str().as_bytes(), place, out),
-        Item::Array(items) => {
-            append_head(4, items.len() as u64, out)?;
-            append_members(alloc, items, place + 1, out)
-        }
-        Item::Map(pairs) => {
-            append_head(5, pairs.len() as u64, out)?;
-            append_pairs(alloc, pairs, place + 1, out)
-        }
-        Item::Tag(number, content) => {
-            append_head(6, *number, out)?;
-            append_det(alloc, content, place + 1, out)
-        }
+        Item::Array(items) => append_members(alloc, items, place + 1, out),
+        Item::Map(pairs) => append_pairs(alloc, pairs, place + 1, out),
+        Item::Tag(number, content) => append_content(alloc, *number, content, place + 1, out),
         Item::Simple(n) => append_simple(*n, place, out),
         Item::Float(width, bits) => append_float(*width, *bits, place, out),
     }
 }
 
+// What is in a tag, after the head of the tag.
 #[cycle(det)]
+#[inline(never)]
+fn append_content(
+    alloc: Global,
+    number: u64,
+    content: &Item,
+    place: usize,
+    out: &mut Vec<u8>,
+) -> Result<usize, Unsound>
+    requires plain { IsPlain (view content.now) }
+    requires room { place + place_count (view content.now) < 2 ^ 64 }
+    ensures { Lays (view content.now) place (out.old.items ++ shortest_head 6 number) out.new.items result }
+{
+    append_head(6, number, out)?;
+    append_det(alloc, content, place, out)
+}
+
+// The members of an array, after its head.
+#[cycle(det)]
+#[inline(never)]
 fn append_members(
     alloc: Global,
     items: &Vec<Item>,
@@ -64,8 +75,9 @@ fn append_members(
 ) -> Result<usize, Unsound>
     requires plain { ArePlain (values_view items.now.items) }
     requires room { place + values_place_count (values_view items.now.items) < 2 ^ 64 }
-    ensures { LaysAmong (values_view items.now.items) place out.old.items out.new.items result }
+    ensures { LaysAmong (values_view items.now.items) place (out.old.items ++ shortest_head 4 (length items.now.items)) out.new.items result }
 {
+    append_head(4, items.len() as u64, out)?;
     let mut next = place;
     for item in items {
         next = append_det(alloc, item, next, out)?;
@@ -73,7 +85,7 @@ fn append_members(
     Ok(next)
 }
 
-// The same of the pairs of a map, whose keys may not be the same.
+// The pairs of a map, after its head. No two keys may be the same.
 #[cycle(det)]
 #[inline(never)]
 fn append_pairs(
@@ -84,7 +96,7 @@ fn append_pairs(
 ) -> Result<usize, Unsound>
     requires plain { ArePairsPlain (pairs_view pairs.now.items) }
     requires room { place + pairs_place_count (pairs_view pairs.now.items) < 2 ^ 64 }
-    ensures { LaysPairs (pairs_view pairs.now.items) place out.old.items out.new.items result }
+    ensures { LaysPairs (pairs_view pairs.now.items) place (out.old.items ++ shortest_head 5 (length pairs.now.items)) out.new.items result }
 {
     let mut noted = BTreeMap::new(alloc);
     let mut next = place;
@@ -98,7 +110,7 @@ fn append_pairs(
         next = append_det(alloc, value, after, &mut value_bytes)?;
         note(&mut noted, key_bytes, value_bytes)?;
     }
-    append_noted(&noted, out)?;
+    append_map(pairs.len() as u64, &noted, out)?;
     Ok(next)
 }
 
@@ -122,8 +134,21 @@ fn note(noted: &mut BTreeMap<Vec<u8>, Vec<u8>>, key: Vec<u8>, value: Vec<u8>) ->
     }
 }
 
-// Adds the pairs in order, each key and then its value.
+// Adds the head of a map with so many pairs, and then these pairs in order.
 #[inline(never)]
+fn append_map(
+    count: u64,
+    noted: &BTreeMap<Vec<u8>, Vec<u8>>,
+    out: &mut Vec<u8>,
+) -> Result<(), Unsound>
+    ensures ok { OnOk result (out.new.items ≡ (out.old.items ++ shortest_head 5 count) ++ joined (seen noted.now)) }
+    ensures err { IfErr result (λ e. e ≡ Memory) }
+{
+    append_head(5, count, out)?;
+    append_noted(noted, out)
+}
+
+// Adds the pairs in order, each key and then its value.
 fn append_noted(noted: &BTreeMap<Vec<u8>, Vec<u8>>, out: &mut Vec<u8>) -> Result<(), Unsound>
     ensures ok { OnOk result (out.new.items ≡ out.old.items ++ joined (seen noted.now)) }
     ensures err { IfErr result (λ e. e ≡ Memory) }

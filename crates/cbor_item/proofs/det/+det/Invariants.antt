@@ -1,4 +1,5 @@
-use Rattle.std.proofs.Common.{◌+◌, ◌<◌, ◌^◌, drop, List, Result, ℕ}
+use Rattle.std.proofs.Common.{◌+◌, ◌++◌, ◌<◌, ◌^◌, drop, length, List, Result, ℕ}
+use Rattle.cbor_data.specs.Preferred.{shortest_head}
 use Rattle.cbor_data.specs.Value.{values_place_count}
 use Rattle.cbor_item.specs.Laying.{LaysAmong, seen}
 use Rattle.cbor_item.specs.Walk.{ArePlain}
@@ -12,7 +13,7 @@ abbrev pub invariant-append_members-loop-item : goal.invariant-append_members-lo
 invariant-append_members-loop-item l = record {
   plain : ArePlain (values_view (drop l.item-index l.item-items));
   room : l.next + values_place_count (values_view (drop l.item-index l.item-items)) < 2 ^ 64;
-  follows : (new : List ℕ) (r : Result ℕ Unsound) → LaysAmong (values_view (drop l.item-index l.item-items)) l.next l.out.items new r → LaysAmong (values_view l.item-items) l.fn.place l.fn.out.items new r;
+  follows : (new : List ℕ) (r : Result ℕ Unsound) → LaysAmong (values_view (drop l.item-index l.item-items)) l.next l.out.items new r → LaysAmong (values_view l.item-items) l.fn.place (l.fn.out.items ++ shortest_head 4 (length l.item-items)) new r;
 }
 
 -- the pairs before are noted in order
