@@ -17,7 +17,7 @@ use crate::sound::Unsound;
 use cbor_data::Width;
 use item_nodes::Item;
 use item_nodes::head::Head;
-use std::alloc::Global;
+use std::alloc::{AllocError, Global};
 use std::collections::BTreeMap;
 
 // Adds the deterministic bytes of an item at `place`, and answers the place after it; or else the place of its first
@@ -122,20 +122,35 @@ fn is_noted(noted: &BTreeMap<Vec<u8>, Vec<u8>>, key: &Vec<u8>) -> bool
     noted.contains_key(key)
 }
 
-// Puts a pair in its place among those in order.
-#[inline(never)]
+// Puts a pair in its place among those in order. What is answered by the part that is not inlined takes no room on the stack.
+#[inline(always)]
 fn note(noted: &mut BTreeMap<Vec<u8>, Vec<u8>>, key: Vec<u8>, value: Vec<u8>) -> Result<(), Unsound>
     ensures ok { OnOk result (seen noted.new ≡ insert_entry (slice_cmp nat_cmp) (seen noted.old) key.items value.items) }
     ensures err { IfErr result (λ e. e ≡ Memory) }
 {
-    match noted.insert(key, value) {
-        Ok(_) => Ok(()),
+    match insert(noted, key, value) {
+        Ok(()) => Ok(()),
         Err(_) => Err(Unsound::Memory),
     }
 }
 
-// Adds the head of a map with so many pairs, and then these pairs in order.
+// The same with an answer that is no more than a sign.
 #[inline(never)]
+fn insert(
+    noted: &mut BTreeMap<Vec<u8>, Vec<u8>>,
+    key: Vec<u8>,
+    value: Vec<u8>,
+) -> Result<(), AllocError>
+    ensures { OnOk result (seen noted.new ≡ insert_entry (slice_cmp nat_cmp) (seen noted.old) key.items value.items) }
+{
+    match noted.insert(key, value) {
+        Ok(_) => Ok(()),
+        Err(_) => Err(AllocError),
+    }
+}
+
+// Adds the head of a map with so many pairs, and then these pairs in order.
+#[inline(always)]
 fn append_map(
     count: u64,
     noted: &BTreeMap<Vec<u8>, Vec<u8>>,
@@ -144,18 +159,25 @@ fn append_map(
     ensures ok { OnOk result (out.new.items ≡ (out.old.items ++ shortest_head 5 count) ++ joined (seen noted.now)) }
     ensures err { IfErr result (λ e. e ≡ Memory) }
 {
-    append_head(5, count, out)?;
-    append_noted(noted, out)
+    match append_noted(count, noted, out) {
+        Ok(()) => Ok(()),
+        Err(_) => Err(Unsound::Memory),
+    }
 }
 
-// Adds the pairs in order, each key and then its value.
-fn append_noted(noted: &BTreeMap<Vec<u8>, Vec<u8>>, out: &mut Vec<u8>) -> Result<(), Unsound>
-    ensures ok { OnOk result (out.new.items ≡ out.old.items ++ joined (seen noted.now)) }
-    ensures err { IfErr result (λ e. e ≡ Memory) }
+// The same with an answer that is no more than a sign.
+#[inline(never)]
+fn append_noted(
+    count: u64,
+    noted: &BTreeMap<Vec<u8>, Vec<u8>>,
+    out: &mut Vec<u8>,
+) -> Result<(), AllocError>
+    ensures { OnOk result (out.new.items ≡ (out.old.items ++ shortest_head 5 count) ++ joined (seen noted.now)) }
 {
+    out.extend_from_slice(Head::shortest(5, count).as_slice())?;
     for (key, value) in noted {
-        append(key.as_slice(), out)?;
-        append(value.as_slice(), out)?;
+        out.extend_from_slice(key)?;
+        out.extend_from_slice(value)?;
     }
     Ok(())
 }
