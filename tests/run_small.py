@@ -44,11 +44,13 @@ def held_again(count, inside):
 ARRAYS = nested(b"\x81", 256, b"\1")
 KEYS = nested(b"\xa1", 256, b"\1", b"\1")
 KEYS_TO_BREAKS = nested(b"\xbf", 256, b"\1", b"\1\xff")
-# maps that are values, and maps that are keys, with pairs that are not in the order of their keys: 256 of them take up to 132 KiB
-FALLING = nested(b"\xa2\2", 200, b"\1", b"\1\0")
-FALLING_KEYS = nested(b"\xa2", 200, b"\1", b"\0\0\0")
+# maps that are values, and maps that are keys, with pairs that are not in the order of their keys
+FALLING = nested(b"\xa2\2", 256, b"\1", b"\1\0")
+FALLING_KEYS = nested(b"\xa2", 256, b"\1", b"\0\0\0")
 # maps that are keys, whose other key is not surely another one
-APART = nested(b"\xa2", 200, b"\1", b"\1\xf5\1")
+APART = nested(b"\xa2", 256, b"\1", b"\1\xf5\1")
+# maps that are keys, with two keys that are the same in the innermost
+REPEATED = nested(b"\xa1", 255, b"\xa2\1\1\1\1", b"\1")
 
 ITEMS = {
     "arrays": ARRAYS,
@@ -61,8 +63,9 @@ ITEMS = {
     "maps that are keys, whose keys fall": FALLING_KEYS,
     "maps that are keys beside others": APART,
     "a repeated key in arrays": nested(b"\x81", 255, b"\xa2\1\1\1\1"),
-    # 256 of these take 162 KiB
-    "a repeated key in keys, 160 deep": nested(b"\xa1", 159, b"\xa2\1\1\1\1", b"\1"),
+    "a repeated key in keys": REPEATED,
+    "a repeated key in a key in values": b"\xa1" + nested(b"\xa1\1", 254, b"\xa2\1\1\1\1") + b"\1",
+    "a repeated key in keys in values": nested(b"\xa1\1", 100, nested(b"\xa1", 155, b"\xa2\1\1\1\1", b"\1")),
     "a repeated key in values": nested(b"\xa1\1", 255, b"\xa2\1\1\1\1"),
     "arrays, one too many": nested(b"\x81", 257, b"\1"),
     "arrays that do not end": b"\x81" * 256,
@@ -75,9 +78,10 @@ ITEMS = {
     # more than may be read in their strings, which ends as want of memory
     "too many strings in arrays in strings": held_again(1200, b"\1"),
     "these beside arrays": b"\x82" + nested(b"\x81", 250, b"\1") + held_again(1200, b"\1"),
-    "maps that are keys in 16 strings": held_again(16, held(nested(b"\xa1", 200, b"\1", b"\1"))),
+    "maps that are keys in 16 strings": held_again(16, held(nested(b"\xa1", 240, b"\1", b"\1"))),
+    "a repeated key in keys in 16 strings": held_again(16, held(nested(b"\xa1", 240, b"\xa2\1\1\1\1", b"\1"))),
 }
-HELD = {"arrays": ARRAYS, "keys": KEYS, "keys to breaks": KEYS_TO_BREAKS, "falling pairs": FALLING, "keys beside others": APART}
+HELD = {"arrays": ARRAYS, "keys": KEYS, "keys to breaks": KEYS_TO_BREAKS, "falling pairs": FALLING, "keys beside others": APART, "a repeated key": REPEATED}
 for name, content in HELD.items():
     ITEMS[f"{name} in a string in arrays"] = nested(b"\x81", 90, held(content))
     ITEMS[f"{name} in a string in maps"] = nested(b"\xa1\1", 90, held(content))
@@ -91,8 +95,8 @@ CONTROLS = "r = [a] / {1 => a}\na = (r .and any) / bstr .cbor c / bstr .cborseq 
 TEXTS = "r = [* r] / {* r => r} / {* any => r} / #6.1(r) / text\n"
 
 
-def all_open(before, after="", inside="int", count=100):
-    """A specification with so many brackets in each other. (With 128 these take up to 124 KiB, and those with 64 up to 190.)"""
+def all_open(before, after="", inside="int", count=128):
+    """A specification with so many brackets in each other: as many as may be."""
     return f"r = {before * count}{inside}{after * count}\nb = any\nf<x> = x\n"
 
 
@@ -100,25 +104,31 @@ SPECIFICATIONS = {
     "arrays": all_open("[", "]"),
     "maps": all_open("{1 => ", "}"),
     "parentheses": all_open("(", ")"),
-    "parentheses in an array": "r = [" + "(" * 99 + "int" + ")" * 99 + "]\n",
+    "parentheses in an array": "r = [" + "(" * 127 + "int" + ")" * 127 + "]\n",
     "groups": "r = [" + "(b // " * 127 + "int" + ")" * 127 + "]\nb = 1\n",
+    "groups in a rule of a group": "r = [g]\ng = " + "(b // 1: b // " * 127 + "(int // b)" + ")" * 127 + "\nb = 1\n",
     "tags": all_open("#6.1(", ")"),
     "numbers of tags": all_open("#6.<", ">(0)", "0"),
     "simple values": all_open("#7.<", ">", "0"),
     "choices of groups": all_open("&(", ")", "1"),
+    "choices of alternatives": all_open("b / &(b // b: ", ")", "1"),
     "controls in parentheses": all_open("(", " .and b)", "b"),
     "ranges": all_open("(0..", ")", "1"),
     "controls of arrays": all_open("[b .and ", "]", "b"),
-    "arrays that do not end": all_open("[", count=128),
-    "alternatives that do not end": all_open("[b // b / ", count=128),
-    "maps that do not end": all_open("{1 => ", count=128),
+    "controls of arrays in alternatives": all_open("[b // b / b .and ", "]", "b"),
+    "arrays that do not end": all_open("["),
+    "alternatives that do not end": all_open("[b // b / "),
+    "maps that do not end": all_open("{1 => "),
     "arrays, one too many": all_open("[", "]", count=129),
-    "alternatives, 64 in each other": all_open("[b // b / ", "]", count=64),
-    "values of maps, 64 in each other": all_open("{1: b // 1 => b / ", "}", count=64),
-    "keys of maps, 64 in each other": all_open("{", " => 1}", "1", count=64),
-    "choices, 64 in each other": all_open("b / (", ")", count=64),
-    "arguments, 64 in each other": all_open("f<", ">", count=64),
-    "an undefined name, 64 deep": all_open("[b // b / ", "]", "no_such_name", count=64),
+    "alternatives": all_open("[b // b / ", "]"),
+    "values of maps": all_open("{1: b // 1 => b / ", "}"),
+    "keys of maps": all_open("{", " => 1}", "1"),
+    "keys of maps in alternatives": all_open("{b // b / b // ", " => 1}", "1"),
+    "choices": all_open("b / (", ")"),
+    "arguments": all_open("f<", ">"),
+    "an undefined name": all_open("[b // b / ", "]", "no_such_name"),
+    "alternatives, and a bracket too many": all_open("[b // b / ", "]").replace("\nb =", "]\nb =", 1),
+    "values of maps in a map whose next key has no type": "r = {" + "{1: b // 1 => b / " * 127 + "int" + "}" * 127 + " : }\nb = any\n",
 }
 
 

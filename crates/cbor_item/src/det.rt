@@ -122,7 +122,7 @@ fn is_noted(noted: &BTreeMap<Vec<u8>, Vec<u8>>, key: &Vec<u8>) -> bool
     noted.contains_key(key)
 }
 
-// Puts a pair in its place among those in order. What is answered by the part that is not inlined takes no room on the stack.
+// Puts a pair in its place among those in order. `insert` answers in a register: a map in a key has no room for its answer.
 #[inline(always)]
 fn note(noted: &mut BTreeMap<Vec<u8>, Vec<u8>>, key: Vec<u8>, value: Vec<u8>) -> Result<(), Unsound>
     ensures ok { OnOk result (seen noted.new ≡ insert_entry (slice_cmp nat_cmp) (seen noted.old) key.items value.items) }
@@ -134,7 +134,7 @@ fn note(noted: &mut BTreeMap<Vec<u8>, Vec<u8>>, key: Vec<u8>, value: Vec<u8>) ->
     }
 }
 
-// The same with an answer that is no more than a sign.
+// The same, which says no more than whether there was memory.
 #[inline(never)]
 fn insert(
     noted: &mut BTreeMap<Vec<u8>, Vec<u8>>,
@@ -165,7 +165,7 @@ fn append_map(
     }
 }
 
-// The same with an answer that is no more than a sign.
+// The same, which says no more than whether there was memory.
 #[inline(never)]
 fn append_noted(
     count: u64,
