@@ -14,7 +14,7 @@ use Rattle.mismatch_words.specs.declared.causes.Cause.{Cause}
 use Rattle.cddl_mismatch.specs.Causes.{chain_of, told_cause}
 use Rattle.cddl_mismatch.specs.Lines.{IsLineAt}
 use Rattle.cddl_mismatch.specs.Places.{ArePlaceWords}
-use Rattle.cddl_mismatch.specs.Explained.{AreLines, IsPlaceOf, IsPlaced, IsToldOf, nowhere, one_more}
+use Rattle.cddl_mismatch.specs.Explained.{AreLines, IsPlaceOf, IsPlaced, IsToldOf, IsToldOfRoot, nowhere, of_root, one_more}
 
 abbrev value_or : {A : Type 0} → A → Option A → A
 value_or d (Some x) = x
@@ -40,11 +40,14 @@ placed x chain None some none = none
 pub told_there : (text : List ℕ) (tokens : List Token) (file : List ℕ) (p : Place) (x : Value) (r : Reason) (found : List ℕ) (cause : Cause) (line : List ℕ) → ArePlaceWords (codes "$") x (map holder_view r.strings.items) r.place found → cause ≡ told_cause r.greedy r.cause → IsLineAt text tokens file p found cause line → IsToldOf text tokens file p x r line
 told_there text tokens file p x r found cause line words k h = (found, words, subst (λ c. IsLineAt text tokens file p found c line) k h)
 
-pub one_line_more : (text : List ℕ) (tokens : List Token) (file : List ℕ) (sources : Sources) (x : Value) (rs : List Reason) (lines new : List (List ℕ)) (r : Reason) (p : Place) (line : List ℕ) → new ≡ with_line lines line → IsPlaced sources r (Some p) → IsToldOf text tokens file p x r line → AreLines text tokens file sources x rs lines → AreLines text tokens file sources x (rs ++ r ∷ []) new
-one_line_more text tokens file sources x rs lines new r p line e placed told h = subst (λ ls. AreLines text tokens file sources x (rs ++ r ∷ []) ls) (sym e) (one_more h r p line placed told)
+pub one_line_more : (text : List ℕ) (tokens : List Token) (file : List ℕ) (root : Option (List ℕ)) (sources : Sources) (x : Value) (rs : List Reason) (lines new : List (List ℕ)) (r : Reason) (p : Place) (line : List ℕ) → new ≡ with_line lines line → IsPlaced sources r (Some p) → IsToldOf text tokens file p x r line → AreLines text tokens file root sources x rs lines → AreLines text tokens file root sources x (rs ++ r ∷ []) new
+one_line_more text tokens file root sources x rs lines new r p line e placed told h = subst (λ ls. AreLines text tokens file root sources x (rs ++ r ∷ []) ls) (sym e) (one_more h r p line placed told)
 
-pub no_line_more : (text : List ℕ) (tokens : List Token) (file : List ℕ) (sources : Sources) (x : Value) (rs : List Reason) (lines : List (List ℕ)) (r : Reason) → IsPlaced sources r None → AreLines text tokens file sources x rs lines → AreLines text tokens file sources x (rs ++ r ∷ []) lines
-no_line_more text tokens file sources x rs lines r none h = nowhere h r none
+pub root_line_more : (text : List ℕ) (tokens : List Token) (file : List ℕ) (root : Option (List ℕ)) (sources : Sources) (x : Value) (rs : List Reason) (lines new : List (List ℕ)) (r : Reason) (name line : List ℕ) → new ≡ with_line lines line → root ≡ Some name → IsPlaced sources r None → IsToldOfRoot name x r line → AreLines text tokens file root sources x rs lines → AreLines text tokens file root sources x (rs ++ r ∷ []) new
+root_line_more text tokens file root sources x rs lines new r name line e is none told h = subst (λ ls. AreLines text tokens file root sources x (rs ++ r ∷ []) ls) (sym e) (of_root h r name line is none told)
+
+pub no_line_more : (text : List ℕ) (tokens : List Token) (file : List ℕ) (root : Option (List ℕ)) (sources : Sources) (x : Value) (rs : List Reason) (lines : List (List ℕ)) (r : Reason) → root ≡ None → IsPlaced sources r None → AreLines text tokens file root sources x rs lines → AreLines text tokens file root sources x (rs ++ r ∷ []) lines
+no_line_more text tokens file root sources x rs lines r is none h = nowhere h r is none
 
 pub same_line : (file found : List ℕ) (line column : ℕ) (given rule : List ℕ) (cause : Cause) (shown written told : List ℕ) → told ≡ line_text file found line column given cause shown → given ≡ rule → shown ≡ written → told ≡ line_text file found line column rule cause written
 same_line file found line column given rule cause shown written told h e k = h ∙ (ap (λ r. line_text file found line column r cause shown) e ∙ ap (λ w. line_text file found line column rule cause w) k)

@@ -26,12 +26,13 @@ use Rattle.cddl_reasons.specs.Told.{AreReasons, HasNone, holder_view}
 use Rattle.cddl_reasons.specs.declared.causes.Reason.{Reason}
 use Rattle.cddl_reasons.specs.declared.causes.Reasons.{Reasons}
 use Rattle.mismatch_words.specs.Lines.{told_lines, with_line}
+use Rattle.mismatch_words.specs.Reasons.{root_line}
 use Rattle.cddl_mismatch.specs.Causes.{chain_of, told_cause}
 use Rattle.cddl_mismatch.specs.Lines.{IsLineAt}
 use Rattle.cddl_mismatch.specs.Places.{ArePlaceWords}
 use Rattle.cddl_mismatch.specs.declared.reasons.TheConstants.{MOST}
 
--- The place is that of the last of the types to which these links lead that stands in the text. Nothing is told where they are of no
+-- The place is that of the last of the types to which these links lead that stands in the text. There is none where they are of no
 -- rule.
 abbrev pub IsPlaceOf : Sources → List Link → Option Place → Type 0
 IsPlaceOf x chain (Some p) = (s : Sense) (table : Table) (known : AreSources s table x) → IsPlace (rules_of s.tree) (IsNameOfType s known.terms known.nodes) chain p
@@ -45,11 +46,18 @@ module _ (text : List ℕ) (tokens : List Token) (file : List ℕ) where
   abbrev pub IsToldOf : Place → Value → Reason → List ℕ → Type 0
   IsToldOf p x r line = (found : List ℕ) × ArePlaceWords (codes "$") x (map holder_view r.strings.items) r.place found × IsLineAt text tokens file p found (told_cause r.greedy r.cause) line
 
-  -- The lines of these reasons, in order: one for each whose types stand in the text, but for one that is there already.
+-- The line tells the place and what is there, and this root.
+abbrev pub IsToldOfRoot : (root : List ℕ) → Value → Reason → List ℕ → Type 0
+IsToldOfRoot root x r line = (found : List ℕ) × ArePlaceWords (codes "$") x (map holder_view r.strings.items) r.place found × (line ≡ root_line found root)
+
+module _ (text : List ℕ) (tokens : List Token) (file : List ℕ) (root : Option (List ℕ)) where
+  -- The lines of these reasons, in order: one for each, but for one that is there already. Where its types are of no rule of the text
+  -- it tells the root, by the name that was asked for; the first rule is one of the text.
   pub data AreLines (sources : Sources) (x : Value) : List Reason → List (List ℕ) → Type 0 where
     no_reason : AreLines sources x [] []
-    one_more : {rs : List Reason} {lines : List (List ℕ)} → AreLines sources x rs lines → (r : Reason) (p : Place) (line : List ℕ) → IsPlaced sources r (Some p) → IsToldOf p x r line → AreLines sources x (rs ++ r ∷ []) (with_line lines line)
-    nowhere : {rs : List Reason} {lines : List (List ℕ)} → AreLines sources x rs lines → (r : Reason) → IsPlaced sources r None → AreLines sources x (rs ++ r ∷ []) lines
+    one_more : {rs : List Reason} {lines : List (List ℕ)} → AreLines sources x rs lines → (r : Reason) (p : Place) (line : List ℕ) → IsPlaced sources r (Some p) → IsToldOf text tokens file p x r line → AreLines sources x (rs ++ r ∷ []) (with_line lines line)
+    of_root : {rs : List Reason} {lines : List (List ℕ)} → AreLines sources x rs lines → (r : Reason) (name line : List ℕ) → root ≡ Some name → IsPlaced sources r None → IsToldOfRoot name x r line → AreLines sources x (rs ++ r ∷ []) (with_line lines line)
+    nowhere : {rs : List Reason} {lines : List (List ℕ)} → AreLines sources x rs lines → (r : Reason) → root ≡ None → IsPlaced sources r None → AreLines sources x (rs ++ r ∷ []) lines
 
   -- the first lines, and how many more there are, with the reasons that have none
   pub record AreTold (sources : Sources) (x : Value) (reasons : Reasons) (told : List ℕ) : Type 0 where
@@ -83,4 +91,4 @@ IsUntold RefusalV.Memory told = ⊥
 -- What is told of the text and the item: nothing where the text is refused, and else what its specification tells.
 pub data IsExplainedMismatch (text : List ℕ) (root : Option (List ℕ)) (file : List ℕ) (x : Value) (steps : ℕ) (told : List ℕ) : Type 0 where
   refused : (f : Fault) → IsWrongText text root f → told ≡ [] → IsExplainedMismatch text root file x steps told
-  explained : (tokens : List Token) (spec : Checked) → AreTokensOf tokens text → IsReadAs tokens root spec → IsToldFrom text tokens file spec x steps told → IsExplainedMismatch text root file x steps told
+  explained : (tokens : List Token) (spec : Checked) → AreTokensOf tokens text → IsReadAs tokens root spec → IsToldFrom text tokens file root spec x steps told → IsExplainedMismatch text root file x steps told

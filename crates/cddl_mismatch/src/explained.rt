@@ -14,7 +14,8 @@ use cddl_tree::tokens_end;
 use std::alloc::{AllocError, Global};
 
 /// Why the item does not match the specification that the text is (RFC 8610), with this root or that of the first rule: of each
-/// reason a line, ten at most, and how many more there are. `file` is the name of the text in these lines.
+/// reason a line, ten at most, and how many more there are. `file` is the name of the text in these lines. Where the root is a name
+/// of the prelude, a reason whose types stand nowhere in the text is told by this name.
 ///
 /// Nothing is told where the text is refused, where the item matches, and where so many steps do not tell.
 ///
@@ -38,8 +39,9 @@ pub fn explained_mismatch(
                 text,
                 tokens: found.as_slice(),
                 file,
+                root,
             };
-            told_by_tokens(alloc, source, root, item, steps)
+            told_by_tokens(alloc, source, item, steps)
         }
         Err(refusal) => untold(alloc, refusal),
     }
@@ -49,15 +51,14 @@ pub fn explained_mismatch(
 fn told_by_tokens(
     alloc: Global,
     source: Source<'_>,
-    root: Option<&str>,
     item: &Sound,
     steps: u64,
 ) -> Result<String, AllocError>
     requires ends { EndsInEnd source.tokens.now }
     requires read { AreTokensOf source.tokens.now source.text.now }
-    ensures { IfOk result (λ told. IsExplainedMismatch source.entry.text.now (option_map (λ r. r.now) root.entry) source.entry.file.now item.now steps (string_bytes told)) }
+    ensures { IfOk result (λ told. IsExplainedMismatch source.entry.text.now (option_map (λ r. r.now) source.entry.root) source.entry.file.now item.now steps (string_bytes told)) }
 {
-    match read_tokens(alloc, source.tokens, root) {
+    match read_tokens(alloc, source.tokens, source.root) {
         Ok(spec) => told_by_spec(alloc, source, &spec, item, steps),
         Err(refusal) => untold(alloc, refusal),
     }

@@ -9,12 +9,13 @@ use mismatch_words::{Cause, Reason, reason_line, type_words};
 use std::alloc::{AllocError, Global};
 use text_position::position_of;
 
-/// The text of a specification, with its tokens, and the name that it goes by.
+/// The text of a specification, with its tokens, the name that it goes by, and that of its root, if it is not the first rule.
 #[derive(Clone, Copy)]
 pub(crate) struct Source<'s> {
     pub(crate) text: &'s [u8],
     pub(crate) tokens: &'s [Token<'s>],
     pub(crate) file: &'s str,
+    pub(crate) root: Option<&'s str>,
 }
 
 // The line for what was found, where the type stands at this place.

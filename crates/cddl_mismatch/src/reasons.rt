@@ -1,6 +1,6 @@
 //! What is told of an item, by a table and where its types stand.
 
-ghost use Rattle.std.specs.Prelude.{IfOk, string_bytes};
+ghost use Rattle.std.specs.Prelude.{IfOk, option_map, string_bytes};
 ghost use Rattle.cddl_mismatch.specs.Explained.{IsToldBy, IsToldFrom};
 
 use crate::lines::Source;
@@ -23,7 +23,7 @@ pub(crate) fn told_by_spec(
     item: &Sound,
     steps: u64,
 ) -> Result<String, AllocError>
-    ensures { IfOk result (λ told. IsToldFrom source.entry.text.now source.entry.tokens.now source.entry.file.now spec.now item.now steps (string_bytes told)) }
+    ensures { IfOk result (λ told. IsToldFrom source.entry.text.now source.entry.tokens.now source.entry.file.now (option_map (λ r. r.now) source.entry.root) spec.now item.now steps (string_bytes told)) }
 {
     let sourced = compile_with_sources(alloc, spec)?;
     let Sourced { table, sources } = sourced;
@@ -39,7 +39,7 @@ fn told_by(
     item: &Sound,
     steps: u64,
 ) -> Result<String, AllocError>
-    ensures { IfOk result (λ told. IsToldBy source.entry.text.now source.entry.tokens.now source.entry.file.now table.now sources.now item.now steps (string_bytes told)) }
+    ensures { IfOk result (λ told. IsToldBy source.entry.text.now source.entry.tokens.now source.entry.file.now (option_map (λ r. r.now) source.entry.root) table.now sources.now item.now steps (string_bytes told)) }
 {
     match find_reasons(alloc, table, item, steps, MOST)? {
         Some(reasons) => told_of(alloc, source, sources, item, &reasons),

@@ -1,8 +1,9 @@
 //! The lines of reasons.
 
-ghost use Rattle.std.specs.Prelude.{◌≡◌, ◌<◌, ◌++◌, ◌∷◌, [], List, IfOk, Some, length, map, slice_get, string_bytes};
+ghost use Rattle.std.specs.Prelude.{◌≡◌, ◌<◌, ◌++◌, ◌∷◌, [], List, IfOk, None, Some, length, map, option_map, slice_get, string_bytes};
 ghost use Rattle.cddl_reasons.specs.declared.causes.Reason.{Reason as AnyReason};
-ghost use Rattle.cddl_mismatch.specs.Explained.{AreLines, AreTold, IsPlaced, IsToldOf};
+ghost use Rattle.cddl_sources.specs.declared.sources.Sources.{Sources as AllSources};
+ghost use Rattle.cddl_mismatch.specs.Explained.{AreLines, AreTold, IsPlaced, IsToldOf, IsToldOfRoot};
 
 use crate::causes::{chain_of, told_cause};
 use crate::lines::{Source, line_at};
@@ -10,7 +11,7 @@ use crate::places::place_words;
 use cbor_item::Sound;
 use cddl_reasons::{Reason, Reasons};
 use cddl_sources::{Place, Sources};
-use mismatch_words::{push_line, told_lines};
+use mismatch_words::{push_line, root_line, told_lines};
 use std::alloc::{AllocError, Global};
 
 // What is told of these reasons.
@@ -21,7 +22,7 @@ pub(crate) fn told_of(
     item: &Sound,
     reasons: &Reasons,
 ) -> Result<String, AllocError>
-    ensures { IfOk result (λ told. AreTold source.entry.text.now source.entry.tokens.now source.entry.file.now sources.now item.now reasons.now (string_bytes told)) }
+    ensures { IfOk result (λ told. AreTold source.entry.text.now source.entry.tokens.now source.entry.file.now (option_map (λ r. r.now) source.entry.root) sources.now item.now reasons.now (string_bytes told)) }
 {
     let lines = lines_of(alloc, source, sources, item, &reasons.list)?;
     told_lines(alloc, &lines, reasons.more)
@@ -35,7 +36,7 @@ fn lines_of(
     item: &Sound,
     reasons: &[Reason],
 ) -> Result<Vec<String>, AllocError>
-    ensures { IfOk result (λ lines. AreLines source.entry.text.now source.entry.tokens.now source.entry.file.now sources.now item.now reasons.now (map string_bytes lines.items)) }
+    ensures { IfOk result (λ lines. AreLines source.entry.text.now source.entry.tokens.now source.entry.file.now (option_map (λ r. r.now) source.entry.root) sources.now item.now reasons.now (map string_bytes lines.items)) }
 {
     let mut lines = Vec::new(alloc);
     'reason: for k in 0..reasons.len() {
@@ -62,7 +63,7 @@ fn reason_at(reasons: &[Reason], index: usize) -> &Reason
     }
 }
 
-// Puts the line of one reason more behind others, if its types stand anywhere and it is not there already.
+// Puts the line of one reason more behind others, if it is not there already.
 fn add_line(
     alloc: Global,
     source: Source<'_>,
@@ -71,11 +72,34 @@ fn add_line(
     reason: &Reason,
     lines: &mut Vec<String>,
 ) -> Result<(), AllocError>
-    ensures { IfOk result (λ _. (before : List AnyReason) → AreLines source.entry.text.now source.entry.tokens.now source.entry.file.now sources.now item.now before (map string_bytes lines.old.items) → AreLines source.entry.text.now source.entry.tokens.now source.entry.file.now sources.now item.now (before ++ reason.now ∷ []) (map string_bytes lines.new.items)) }
+    ensures { IfOk result (λ _. (before : List AnyReason) → AreLines source.entry.text.now source.entry.tokens.now source.entry.file.now (option_map (λ r. r.now) source.entry.root) sources.now item.now before (map string_bytes lines.old.items) → AreLines source.entry.text.now source.entry.tokens.now source.entry.file.now (option_map (λ r. r.now) source.entry.root) sources.now item.now (before ++ reason.now ∷ []) (map string_bytes lines.new.items)) }
 {
     match place_of(alloc, sources, reason)? {
         Some(place) => {
             let line = line_of(alloc, source, place, item, reason)?;
+            push_line(lines, line)?;
+            return Ok(());
+        }
+        None => {
+            add_root_line(alloc, source, item, reason, lines)?;
+            return Ok(());
+        }
+    }
+}
+
+// The same, where the types of the reason stand nowhere in the text.
+fn add_root_line(
+    alloc: Global,
+    source: Source<'_>,
+    item: &Sound,
+    reason: &Reason,
+    lines: &mut Vec<String>,
+) -> Result<(), AllocError>
+    ensures { IfOk result (λ _. (sources : AllSources) (before : List AnyReason) → IsPlaced sources reason.now None → AreLines source.entry.text.now source.entry.tokens.now source.entry.file.now (option_map (λ r. r.now) source.entry.root) sources item.now before (map string_bytes lines.old.items) → AreLines source.entry.text.now source.entry.tokens.now source.entry.file.now (option_map (λ r. r.now) source.entry.root) sources item.now (before ++ reason.now ∷ []) (map string_bytes lines.new.items)) }
+{
+    match source.root {
+        Some(root) => {
+            let line = line_of_root(alloc, root, item, reason)?;
             push_line(lines, line)?;
             return Ok(());
         }
@@ -109,4 +133,17 @@ fn line_of(
         found.as_str(),
         told_cause(reason.greedy, reason.cause),
     )
+}
+
+// The line of a reason whose types stand nowhere in the text, with this root.
+fn line_of_root(
+    alloc: Global,
+    root: &str,
+    item: &Sound,
+    reason: &Reason,
+) -> Result<String, AllocError>
+    ensures { IfOk result (λ line. IsToldOfRoot root.now item.now reason.now (string_bytes line)) }
+{
+    let found = place_words(alloc, item.item(), &reason.strings, reason.place)?;
+    root_line(alloc, found.as_str(), root)
 }

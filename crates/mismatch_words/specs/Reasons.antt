@@ -21,6 +21,13 @@ parts_text found position rule words = found ++ (codes ": " ++ (position ++ (cod
 abbrev pub line_text : (file found : List ℕ) → (line column : ℕ) → (rule : List ℕ) → Cause → (written : List ℕ) → List ℕ
 line_text file found line column rule cause written = parts_text found (position_text file line column) (shown rule) (said_of cause written)
 
+-- the line of a reason whose types stand nowhere in the text, since the root is this name of the prelude
+abbrev pub root_text : (found root : List ℕ) → List ℕ
+root_text found root = found ++ (codes ": is not as " ++ (root ++ codes " of the prelude wants\n"))
+
+abbrev pub root_line : (found root : List ℕ) → List ℕ
+root_line found root = root_text found (shown root)
+
 -- how many more reasons there are
 abbrev pub more_line : ℕ → List ℕ
 more_line more = if more == 0 then [] else codes "and " ++ (decimal more ++ codes " more\n")

@@ -14,6 +14,6 @@ pub use crate::causes::Cause;
 pub use crate::floats::number_words;
 pub use crate::lines::{push_line, told_lines};
 pub use crate::paths::path_words;
-pub use crate::reasons::{Reason, reason_line};
+pub use crate::reasons::{Reason, reason_line, root_line};
 pub use crate::types::type_words;
 pub use crate::values::{shown_value, value_words};

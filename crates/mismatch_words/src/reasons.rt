@@ -3,7 +3,7 @@
 ghost use Rattle.std.specs.Prelude.{◌≡◌, IfOk, string_bytes};
 ghost use Rattle.text_shown.specs.Places.{shown_part};
 ghost use Rattle.text_shown.specs.Shown.{shown};
-ghost use Rattle.mismatch_words.specs.Reasons.{line_text, more_line, parts_text, position_text, said_of};
+ghost use Rattle.mismatch_words.specs.Reasons.{line_text, more_line, parts_text, position_text, root_line, root_text, said_of};
 
 use crate::causes::{Cause, said};
 use std::alloc::{AllocError, Global};
@@ -44,6 +44,25 @@ pub fn reason_line(alloc: Global, file: &str, reason: Reason<'_>) -> Result<Stri
         rule.as_str(),
         said.as_str(),
     )
+}
+
+/// The line of a reason whose types stand nowhere in the text of the specification, since the root is a name of the prelude (RFC
+/// 8610 appendix D): what is shown of the place, and of what is there, and this name.
+///
+/// # Errors
+///
+/// `AllocError` where an allocation was refused.
+pub fn root_line(alloc: Global, found: &str, root: &str) -> Result<String, AllocError>
+    ensures { IfOk result (λ line. string_bytes line ≡ root_line found.now root.now) }
+{
+    let root = shown(alloc, root)?;
+    root_text(alloc, found, root.as_str())
+}
+
+fn root_text(alloc: Global, found: &str, root: &str) -> Result<String, AllocError>
+    ensures { IfOk result (λ text. string_bytes text ≡ root_text found.now root.now) }
+{
+    format!(in alloc; "{found}: is not as {root} of the prelude wants\n")
 }
 
 fn position_text(alloc: Global, file: &str, at: Position) -> Result<String, AllocError>
