@@ -1,6 +1,5 @@
 -- The lines of reasons, one by one.
-use Rattle.std.proofs.Common.{◌≡◌, ℕ, zero, suc, ◌+◌, List, [], ◌∷◌, ◌++◌, codes, map, take, Option, Some, None, IfNone, IfSome, slice_get, refl, sym, ap, subst, ◌∙◌, arith}
-use Rattle.std.specs.List.{Contains}
+use Rattle.std.proofs.Common.{◌≡◌, ℕ, zero, suc, ◌+◌, List, [], ◌∷◌, ◌++◌, codes, map, take, Option, Some, None, IfNone, IfSome, slice_get, sym, ap, subst, ◌∙◌, arith}
 use Rattle.cbor_data.specs.Value.{Value}
 use Rattle.cddl_token.specs.declared.Token.{Token}
 use Rattle.type_links.specs.declared.link.Link.{Link}
@@ -11,7 +10,7 @@ use Rattle.cddl_reasons.specs.declared.causes.Reason.{Reason}
 use Rattle.mismatch_words.specs.Lines.{with_line}
 use Rattle.mismatch_words.specs.Reasons.{line_text}
 use Rattle.mismatch_words.specs.declared.causes.Cause.{Cause}
-use Rattle.cddl_mismatch.specs.Causes.{chain_of, told_cause}
+use Rattle.cddl_mismatch.specs.Causes.{told_cause}
 use Rattle.cddl_mismatch.specs.Lines.{IsLineAt}
 use Rattle.cddl_mismatch.specs.Places.{ArePlaceWords}
 use Rattle.cddl_mismatch.specs.Explained.{AreLines, IsPlaceOf, IsPlaced, IsToldOf, IsToldOfRoot, nowhere, of_root, one_more}
