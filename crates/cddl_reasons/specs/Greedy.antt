@@ -1,6 +1,6 @@
 -- Whether what took the last item of an array need not have taken it, as far as the numbers of items tell (RFC 8610 appendix A: an
 -- occurrence takes what it can, and nothing is given back).
-use Rattle.std.specs.Prelude.{ℕ, ◌<◌, ◌≤◌, zero, suc, ◌-◌, Bool, false, nat_lt, if◌then◌else◌, List, [], ◌∷◌, Option, Some, None, length, reverse, take}
+use Rattle.std.specs.Prelude.{ℕ, ◌<◌, ◌≤◌, zero, suc, ◌-◌, Bool, true, false, nat_lt, if◌then◌else◌, List, [], ◌∷◌, Option, Some, None, length, reverse, take}
 use Rattle.cddl_meaning.specs.Forms as F
 use Rattle.cddl_meaning.specs.Forms.{Language}
 use Rattle.cddl_meaning.specs.Moves as M
@@ -48,25 +48,35 @@ abbrev pub parts_before : F.Group TypeId GroupId → (after : ℕ) → List Grou
 parts_before (F.Sequence gs) after = take ((length gs - after) - 1) gs
 parts_before _ after = []
 
--- The same of a sequence that was asked of so many items, and waits so.
+-- The same of a sequence that was asked of so many items, and waits so: of its parts before the one that is asked.
 abbrev pub is_greedy_in : Language TypeId GroupId → F.Group TypeId GroupId → M.Pending TypeId GroupId → ℕ → Bool
 is_greedy_in l g (M.InSequence gs base far) n = is_spare l (reverse (parts_before g (length gs))) n
 is_greedy_in l g _ n = false
 
--- The same of an open question, if it was asked of any items of an array, or of something else, whose last part is not taken so.
-abbrev pub by_count : ℕ → Bool → Option Bool
-by_count zero greedy = None
-by_count (suc n) greedy = Some greedy
+-- What waits so asks for more than a further round of an occurrence that has had enough.
+abbrev pub is_needed : M.Pending TypeId GroupId → Bool
+is_needed (M.InRepeat least most g base q xs far) = nat_lt 0 least
+is_needed _ = true
+
+-- The same of an open question that was asked of any items. Of one that was asked of no items it is not known, unless what it asks is
+-- not needed.
+abbrev pub unless_needed : Bool → Option Bool
+unless_needed true = None
+unless_needed false = Some false
+
+abbrev pub by_count : ℕ → (needed greedy : Bool) → Option Bool
+by_count zero needed greedy = unless_needed needed
+by_count (suc n) needed greedy = Some greedy
 
 abbrev pub greedy_of : Language TypeId GroupId → M.Question TypeId GroupId → M.Pending TypeId GroupId → Option Bool
-greedy_of l (M.OfGroup g base q xs) o = by_count (length xs) (is_greedy_in l (l.group_at g) o (length xs))
+greedy_of l (M.OfGroup g base q xs) o = by_count (length xs) (is_needed o) (is_greedy_in l (l.group_at g) o (length xs))
 greedy_of l _ o = Some false
 
 abbrev pub first_known : Option Bool → Bool → Bool
 first_known (Some b) next = b
 first_known None next = next
 
--- the same of the last open question that was asked of any items, with the last one first
+-- the same of the last open question of which it is known, with the last one first
 abbrev pub is_greedy : Language TypeId GroupId → List (M.Question TypeId GroupId) → List (M.Pending TypeId GroupId) → Bool
 is_greedy l (q ∷ qs) (o ∷ os) = first_known (greedy_of l q o) (is_greedy l qs os)
 is_greedy l _ _ = false

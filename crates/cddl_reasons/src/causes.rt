@@ -47,10 +47,10 @@ pub struct Reason {
     /// Where it has failed: in the item, or in what the last of these strings holds.
     pub place: usize,
     pub cause: Cause,
-    /// Whether, of the last open questions, the first one that was asked of any items is a sequence of which a part before the one
-    /// that is asked now has taken the last item, and need not have: an occurrence, which gives nothing back (RFC 8610 appendix A).
-    /// That is told where the number of items leaves nothing else, whatever each part has taken; and only where each of them that
-    /// matters has rounds of one item.
+    /// Whether the last open question that was asked of any items is a sequence of which a part before the one that is asked now has
+    /// taken the last item, and need not have: an occurrence, which gives nothing back (RFC 8610 appendix A). That is told where the
+    /// number of items leaves nothing else, whatever each part has taken; and only where each of them that matters has rounds of one
+    /// item. Of a further round that need not be it is not told.
     pub greedy: bool,
 }
 

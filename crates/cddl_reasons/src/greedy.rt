@@ -3,7 +3,7 @@
 ghost use Rattle.std.specs.Prelude.{◌≡◌, ◌<◌, ℕ, List, Some, length, option_map, reverse, slice_get, true};
 ghost use Rattle.std.specs.List.{sum};
 ghost use Rattle.cddl_meaning.specs.Forms.{Language};
-ghost use Rattle.cddl_reasons.specs.Greedy.{AreShares, HasMore, each_round, greedy_of, is_greedy, is_greedy_in, is_over, is_spare, parts_before, rounds_of};
+ghost use Rattle.cddl_reasons.specs.Greedy.{AreShares, HasMore, each_round, greedy_of, is_greedy, is_greedy_in, is_needed, is_over, is_spare, parts_before, rounds_of, unless_needed};
 ghost use Rattle.cddl_reasons.specs.Opened.{asked_in, waits_in};
 ghost use Rattle.match_moves.specs.Views.{pending_view, question_view};
 ghost use Rattle.table_nodes.specs.Language.{language_of};
@@ -103,7 +103,27 @@ fn is_greedy_in(table: &Table, group: GroupId, pending: &Pending<'_, '_>, count:
     is_spare(table, parts_before(table, group, parts.len()), count)
 }
 
-// The same of an open question, unless it was asked of no items of an array.
+// Whether what waits so asks for more than a further round of an occurrence that has had enough.
+fn is_needed(pending: &Pending<'_, '_>) -> bool
+    ensures { result ≡ is_needed (pending_view pending.now) }
+{
+    match pending {
+        Pending::Group(PendingGroup::Repeat(rounds)) => rounds.least > 0,
+        _ => true,
+    }
+}
+
+fn unless_needed(pending: &Pending<'_, '_>) -> Option<bool>
+    ensures { result ≡ unless_needed (is_needed (pending_view pending.now)) }
+{
+    if is_needed(pending) {
+        None
+    } else {
+        Some(false)
+    }
+}
+
+// The same of an open question, unless it was asked of no items and needs some.
 fn greedy_of(table: &Table, waiting: &Open<'_, '_>) -> Option<bool>
     ensures { result ≡ greedy_of (language_of table.now) (question_view waiting.now.question) (pending_view waiting.now.pending) }
 {
@@ -111,7 +131,7 @@ fn greedy_of(table: &Table, waiting: &Open<'_, '_>) -> Option<bool>
         return Some(false);
     };
     if items.is_empty() {
-        return None;
+        return unless_needed(&waiting.pending);
     }
     Some(is_greedy_in(table, *group, &waiting.pending, items.len() as u64))
 }
@@ -127,7 +147,7 @@ fn open_at<'o, 't, 'i>(below: &'o [Open<'t, 'i>], index: usize) -> &'o Open<'t, 
     }
 }
 
-// The same of the last of these questions that was asked of any items.
+// The same of the last of these questions of which it is known.
 pub(crate) fn is_greedy(table: &Table, below: &[Open<'_, '_>]) -> bool
     ensures { result ≡ is_greedy (language_of table.now) (reverse (asked_in below.now)) (reverse (waits_in below.now)) }
 {
