@@ -54,6 +54,8 @@ has nothing in it. A refusal is the name of its kind, with 'at' its place. Reade
   match.reasons ROOT STEPS MOST HEX
                                where a no shows, and why: of each reason the types that are open and the place, behind those of
                                the byte strings in whose content it is, each with ':'; and how many more there are
+  match.held one HEX           what a byte string of these bytes holds, as one item; match.held sequence HEX as the array of the
+                               items of a sequence
   session.feed ROOT STEPS DEPTH BYTES PIECE..
                                what a session answers to each piece with its items, its end, the item that it rejected, and how
                                many items and bytes it has taken, with '|' between them; session.feed_one takes items one by

@@ -28,5 +28,6 @@ pub use crate::laws::{
     turns_answer_alike, turns_are_few,
 };
 pub use crate::machine::Machine;
+pub use crate::reading::held_in;
 pub use crate::shelf::{Cells, Shelf};
 pub use crate::stack::held_on;

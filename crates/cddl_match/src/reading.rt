@@ -26,8 +26,13 @@ fn plain_items(alloc: Global, items: Vec<Sound>) -> Result<Vec<Item>, AllocError
     Ok(plain)
 }
 
-// What a byte string of these bytes holds, if it holds something.
-pub(crate) fn held_in(
+/// What a byte string of these bytes holds, if it holds something: one item, or the array of the items of a sequence (RFC 8610
+/// section 3.8.4). No limit on bytes or on depth applies to it.
+///
+/// # Errors
+///
+/// `AllocError` where memory was refused.
+pub fn held_in(
     alloc: Global,
     content: Content,
     bytes: &[u8],

@@ -4,7 +4,6 @@
 
 mod causes;
 mod explained;
-mod held;
 mod lines;
 mod places;
 mod reasons;

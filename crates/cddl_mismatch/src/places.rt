@@ -1,13 +1,15 @@
 //! What is shown of a place of an item.
 
-ghost use Rattle.std.specs.Prelude.{◌≡◌, ◌++◌, codes, IfOk, map, OnOk, option_map, string_bytes};
+ghost use Rattle.std.specs.Prelude.{◌≡◌, ◌++◌, codes, IfOk, map, MatchOption, OnOk, option_map, string_bytes};
+ghost use Rattle.cbor_data.specs.Value.{Value};
 ghost use Rattle.item_nodes.specs.View.{view};
 ghost use Rattle.cddl_reasons.specs.Told.{holder_view};
-ghost use Rattle.cddl_mismatch.specs.Places.{steps_to, AreWordsAt, ArePlaceWords, IsValueShown};
+ghost use Rattle.cddl_mismatch.specs.Places.{steps_to, AreWordsAt, ArePlaceWords, HoldsAt, IsValueShown};
 
-use crate::held::held_at;
 use cbor_item::{Item, item_at, path_text};
+use cddl_match::held_in;
 use cddl_reasons::Holder;
+use match_moves::bytes_of;
 use mismatch_words::{path_words, shown_value};
 use std::alloc::{AllocError, Global};
 
@@ -45,6 +47,19 @@ fn words_behind(
     push_steps(alloc, &mut path, item, string.place)?;
     path.extend_from_slice(b"<<>>")?;
     words_behind(alloc, path, &held, others, place)
+}
+
+// What the byte string at a place of the item holds, if it is one that holds something.
+fn held_at(alloc: Global, item: &Item, holder: Holder) -> Result<Option<Item>, AllocError>
+    ensures { IfOk result (λ held. MatchOption held ((y : Value) → HoldsAt (view item.now) (holder_view holder) y → ⊥) (λ inside. HoldsAt (view item.now) (holder_view holder) (view inside))) }
+{
+    let Some(string) = item_at(item, holder.place) else {
+        return Ok(None);
+    };
+    let Some(bytes) = bytes_of(string) else {
+        return Ok(None);
+    };
+    held_in(alloc, holder.content, bytes)
 }
 
 // The path and what is there, where the place counts in the item to which this path leads.

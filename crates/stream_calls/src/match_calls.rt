@@ -1,12 +1,13 @@
 //! Calls of `table_nodes` and `cddl_match`.
+use crate::item_calls::push_notation_of;
 use crate::reason_calls::push_reasons;
 use crate::tables::groups_of;
 use call_lines::{bytes, count, first, number, push_no_memory, push_none, push_number};
 use cbor_item::Sound;
 use cbor_read::embedded_item;
-use cddl_match::{Cells, Machine, Verdict, verdict};
+use cddl_match::{Cells, Machine, Verdict, held_in, verdict};
 use std::alloc::{AllocError, Global};
-use table_nodes::Table;
+use table_nodes::{Content, Table};
 use table_nodes::flags::flags_of;
 
 // Whether each group may take no item.
@@ -26,7 +27,7 @@ fn push_marks(flags: &[bool], out: &mut String) -> Result<(), AllocError> {
 }
 
 // The greatest rank; or what the root says of an item in so many steps, by calls, or by turns with room for so many questions; or
-// why it says no, in so many reasons.
+// why it says no, in so many reasons; or what a byte string holds.
 pub(crate) fn answer(
     alloc: Global,
     table: &Table,
@@ -47,7 +48,22 @@ pub(crate) fn answer(
             let item = held_of(alloc, words)?;
             push_reasons(alloc, table, &item, number(steps), count(most), out)
         }
+        "held" => push_held(alloc, steps, words, out),
         _ => out.push_str("no such call"),
+    }
+}
+
+// What a byte string of these bytes holds, as one item or as a sequence.
+fn push_held(alloc: Global, form: &str, words: &str, out: &mut String) -> Result<(), AllocError> {
+    let content = match form {
+        "one" => Content::OneItem,
+        _ => Content::Sequence,
+    };
+    let spelling = bytes(alloc, words)?;
+    match held_in(alloc, content, &spelling) {
+        Ok(Some(item)) => push_notation_of(alloc, &item, out),
+        Ok(None) => push_none(out),
+        Err(_) => push_no_memory(out),
     }
 }
 

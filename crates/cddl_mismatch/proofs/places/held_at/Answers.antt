@@ -2,7 +2,7 @@ use Rattle.std.proofs.lemmas.Result.{IfOk-weaker}
 use Rattle.item_nodes.specs.View.{view}
 use Rattle.cddl_reasons.specs.Told.{holder_view}
 use Rattle.cddl_mismatch.proofs.Reading.{held_there, no_string, nothing_there}
-use Rattle.cddl_mismatch.proofs.held.held_at.Goals as goal
+use Rattle.cddl_mismatch.proofs.places.held_at.Goals as goal
 
 pub returns-in_default : goal.returns-in_default
 returns-in_default c = nothing_there (view c.args.item.now) (holder_view c.args.holder) (rw c.in_default.is at c.item_at.ensures)
