@@ -1,5 +1,5 @@
 -- The types in each kind of node.
-use Rattle.std.proofs.Common.{◌≡◌, ◌-◌, List, [], ◌∷◌, ◌++◌, length, map, slice_get, None, Option, Some, Box, Global, refl, sym, ap, ◌∙◌, append_assoc}
+use Rattle.std.proofs.Common.{◌≡◌, ◌-◌, List, [], ◌∷◌, ◌++◌, length, map, option_map, slice_get, None, Option, Some, Box, Global, refl, sym, ap, ◌∙◌, append_assoc}
 use Rattle.std.proofs.lemmas.List.{append-nil}
 use Rattle.std.specs.List.{flat_map}
 use Rattle.cddl_token.specs.declared.Token.{Token}
@@ -31,8 +31,9 @@ use Rattle.tree_nodes.specs.declared.tree.Type2.TheVariants as Type2V
 use Rattle.tree_nodes.specs.declared.tree.GrpEnt.TheViews.{out-Types, out-GenericArg, out-Group, out-GrpChoice}
 use Rattle.tree_nodes.specs.View.{leaf, view_type1, view_type2, view_ref, view_key, view_grpent, view_rule, view_value, view_further, view_entry, view_choice, view_types, view_arg, view_group, with_types, with_arguments, with_entries, with_choices}
 use Rattle.tree_nodes.proofs.Lemmas.{view-Name, view-Applied, view-One, view-Operation, view-Literal, view-Typename, view-Parens, view-MapOf, view-ArrayOf, view-Unwrapped, view-ChoiceOf, view-ChoiceOfName, view-Tagged, view-TaggedBy, view-SimpleBy, view-Hash, view-Typed, view-Keyed, view-Grouped, view-TypeKey, view-Bareword, view-ValueKey, view-Entry, view-Further, view_out-GrpChoice, view_out-Types, view_out-GenericArg, view_out-Group}
-use Rattle.cddl_sources.specs.Pieces.{Piece, a_type, a_value, a_word, an_entry, brackets, count_of, entries_in, inner_of, key_piece, operand, in_types, in_members, in_type1, in_type2, in_ref, in_arguments, in_group, in_entries, in_entry, in_key, in_rule, name_of_type1, name_of_types, of_group, of_types, own_count, own_entries, the_rule}
-use Rattle.cddl_sources.specs.Walk.{further_pieces, entry_pieces, choice_pieces}
+use Rattle.cddl_sources.specs.Pieces.{Around, Piece, a_type, a_value, a_word, an_entry, bare_type1, bare_types, brackets, count_of, entries_in, inner_of, key_piece, operand, in_types, in_members, in_type1, in_type2, in_ref, in_arguments, in_group, in_entries, in_entry, in_key, in_rule, inner_or, name_of_type1, name_of_types, of_group, of_types, own_count, own_entries, the_rule}
+use Rattle.cddl_sources.specs.Walk.{further_pieces, entry_pieces, choice_pieces, view_around}
+use Rattle.cddl_sources.specs.declared.node.AroundNode.{AroundNode}
 
 whole : (t : S.Types) → in_types t ≡ a_type t ∷ in_members t
 whole (S.only r) = refl
@@ -42,8 +43,8 @@ module _ (read : Leaf → Token) where
   further_part : (x : Further) → in_type1 (view_further read x).1 ≡ further_pieces read x
   further_part x = ap (λ (y : Token × S.Type1). in_type1 y.1) (view-Further read x.sign x.type1)
 
-  entry_part : (e : Entry) → in_entry (view_entry read e).0 ≡ entry_pieces read e
-  entry_part e = ap (λ (y : S.GrpEnt × Option Token). in_entry y.0) (view-Entry read e.grpent e.comma)
+  entry_part : (a : AroundNode) (e : Entry) → in_entry (view_around read a) (view_entry read e).0 ≡ entry_pieces a read e
+  entry_part a e = ap (λ (y : S.GrpEnt × Option Token). in_entry (view_around read a) y.0) (view-Entry read e.grpent e.comma)
 
   in_with_types : (t : S.Types) (xs : List Further) → in_members (with_types t (map (view_further read) xs)) ≡ in_members t ++ flat_map (further_pieces read) xs
   in_with_types t [] = sym (append-nil (in_members t))
@@ -59,22 +60,25 @@ module _ (read : Leaf → Token) where
       ∙ append_assoc (in_arguments a) (in_type1 (view_further read x).1) (flat_map (further_pieces read) xs)
       ∙ ap (λ (ps : List Piece). in_arguments a ++ (ps ++ flat_map (further_pieces read) xs)) (further_part x)
 
-  in_with_entries : (es : S.GrpChoice) (xs : List Entry) → in_entries (with_entries es (map (view_entry read) xs)) ≡ in_entries es ++ flat_map (entry_pieces read) xs
-  in_with_entries es [] = sym (append-nil (in_entries es))
-  in_with_entries es (x ∷ xs) =
-      in_with_entries (S.entries es (view_entry read x).0 (view_entry read x).1) xs
-      ∙ append_assoc (in_entries es) (in_entry (view_entry read x).0) (flat_map (entry_pieces read) xs)
-      ∙ ap (λ (ps : List Piece). in_entries es ++ (ps ++ flat_map (entry_pieces read) xs)) (entry_part x)
+  module _ (b : AroundNode) where
+    in_with_entries : (es : S.GrpChoice) (xs : List Entry) → in_entries (view_around read b) (with_entries es (map (view_entry read) xs)) ≡ in_entries (view_around read b) es ++ flat_map (entry_pieces b read) xs
+    in_with_entries es [] = sym (append-nil (in_entries (view_around read b) es))
+    in_with_entries es (x ∷ xs) =
+        let a = view_around read b in
+        in_with_entries (S.entries es (view_entry read x).0 (view_entry read x).1) xs
+        ∙ append_assoc (in_entries a es) (in_entry a (view_entry read x).0) (flat_map (entry_pieces b read) xs)
+        ∙ ap (λ (ps : List Piece). in_entries a es ++ (ps ++ flat_map (entry_pieces b read) xs)) (entry_part b x)
 
-  choice_part : (c : GrpChoice) → in_entries (view_choice read c).1 ≡ choice_pieces read c
-  choice_part c = ap (λ (y : Token × S.GrpChoice). in_entries y.1) (view_out-GrpChoice read c) ∙ in_with_entries S.no_entries (out-GrpChoice c).entries.items
+    choice_part : (c : GrpChoice) → in_entries (view_around read b) (view_choice read c).1 ≡ choice_pieces b read c
+    choice_part c = ap (λ (y : Token × S.GrpChoice). in_entries (view_around read b) y.1) (view_out-GrpChoice read c) ∙ in_with_entries S.no_entries (out-GrpChoice c).entries.items
 
-  in_with_choices : (g : S.Group) (xs : List GrpChoice) → in_group (with_choices g (map (view_choice read) xs)) ≡ in_group g ++ flat_map (choice_pieces read) xs
-  in_with_choices g [] = sym (append-nil (in_group g))
-  in_with_choices g (x ∷ xs) =
-      in_with_choices (S.orelse g (view_choice read x).0 (view_choice read x).1) xs
-      ∙ append_assoc (in_group g) (in_entries (view_choice read x).1) (flat_map (choice_pieces read) xs)
-      ∙ ap (λ (ps : List Piece). in_group g ++ (ps ++ flat_map (choice_pieces read) xs)) (choice_part x)
+    in_with_choices : (g : S.Group) (xs : List GrpChoice) → in_group (view_around read b) (with_choices g (map (view_choice read) xs)) ≡ in_group (view_around read b) g ++ flat_map (choice_pieces b read) xs
+    in_with_choices g [] = sym (append-nil (in_group (view_around read b) g))
+    in_with_choices g (x ∷ xs) =
+        let a = view_around read b in
+        in_with_choices (S.orelse g (view_choice read x).0 (view_choice read x).1) xs
+        ∙ append_assoc (in_group a g) (in_entries a (view_choice read x).1) (flat_map (choice_pieces b read) xs)
+        ∙ ap (λ (ps : List Piece). in_group a g ++ (ps ++ flat_map (choice_pieces b read) xs)) (choice_part x)
 
   pub types_pieces : (t : Types) → in_types (view_types read t) ≡ a_type (view_types read t) ∷ (in_type1 (view_type1 read (out-Types t).first) ++ flat_map (further_pieces read) (out-Types t).others.items)
   types_pieces t =
@@ -85,11 +89,11 @@ module _ (read : Leaf → Token) where
   pub argument_pieces : (a : GenericArg) → in_arguments (view_arg read a) ≡ in_type1 (view_type1 read (out-GenericArg a).first) ++ flat_map (further_pieces read) (out-GenericArg a).others.items
   argument_pieces a = ap in_arguments (view_out-GenericArg read a) ∙ in_with_arguments (S.argument (view_type1 read (out-GenericArg a).first)) (out-GenericArg a).others.items
 
-  pub group_pieces : (g : Group) → in_group (view_group read g) ≡ flat_map (entry_pieces read) (out-Group g).first.items ++ flat_map (choice_pieces read) (out-Group g).others.items
-  group_pieces g =
-      ap in_group (view_out-Group read g)
-      ∙ in_with_choices (S.sole (with_entries S.no_entries (map (view_entry read) (out-Group g).first.items))) (out-Group g).others.items
-      ∙ ap (λ (ps : List Piece). ps ++ flat_map (choice_pieces read) (out-Group g).others.items) (in_with_entries S.no_entries (out-Group g).first.items)
+  pub group_pieces : (b : AroundNode) (g : Group) → in_group (view_around read b) (view_group read g) ≡ flat_map (entry_pieces b read) (out-Group g).first.items ++ flat_map (choice_pieces b read) (out-Group g).others.items
+  group_pieces b g =
+      ap (in_group (view_around read b)) (view_out-Group read g)
+      ∙ in_with_choices b (S.sole (with_entries S.no_entries (map (view_entry read) (out-Group g).first.items))) (out-Group g).others.items
+      ∙ ap (λ (ps : List Piece). ps ++ flat_map (choice_pieces b read) (out-Group g).others.items) (in_with_entries b S.no_entries (out-Group g).first.items)
 
 -- The types in a node of each form, whose parts are read through references.
 module _ (read : Leaf → Token) where
@@ -120,17 +124,17 @@ module _ (read : Leaf → Token) where
   pub parens_pieces : (x : Type2) (o : Leaf) (t : Box Types Global) (c : Leaf) (y : Types) → x ≡ Type2V.Parens o t c → y ≡ t.value → in_type2 (view_type2 read x) ≡ operand (view_type2 read x) ∷ in_types (view_types read y)
   parens_pieces x o t c y is e = at_types x t y e (seen x _ _ (in_types (view_types read t.value)) is (view-Parens read o t c) refl)
 
-  pub map_pieces : (x : Type2) (o : Leaf) (g : Group) (c : Leaf) → x ≡ Type2V.MapOf o g c → in_type2 (view_type2 read x) ≡ operand (view_type2 read x) ∷ in_group (view_group read g)
-  map_pieces x o g c is = seen x _ _ (in_group (view_group read g)) is (view-MapOf read o g c) refl
+  pub map_pieces : (x : Type2) (o : Leaf) (g : Group) (c : Leaf) → x ≡ Type2V.MapOf o g c → in_type2 (view_type2 read x) ≡ operand (view_type2 read x) ∷ in_group (brackets (read o) (read c)) (view_group read g)
+  map_pieces x o g c is = seen x _ _ (in_group (brackets (read o) (read c)) (view_group read g)) is (view-MapOf read o g c) refl
 
-  pub array_pieces : (x : Type2) (o : Leaf) (g : Group) (c : Leaf) → x ≡ Type2V.ArrayOf o g c → in_type2 (view_type2 read x) ≡ operand (view_type2 read x) ∷ (entries_in (brackets (read o) (read c)) 0 (view_group read g) ++ in_group (view_group read g))
-  array_pieces x o g c is = seen x _ _ (entries_in (brackets (read o) (read c)) 0 (view_group read g) ++ in_group (view_group read g)) is (view-ArrayOf read o g c) refl
+  pub array_pieces : (x : Type2) (o : Leaf) (g : Group) (c : Leaf) → x ≡ Type2V.ArrayOf o g c → in_type2 (view_type2 read x) ≡ operand (view_type2 read x) ∷ (entries_in (brackets (read o) (read c)) 0 (view_group read g) ++ in_group (brackets (read o) (read c)) (view_group read g))
+  array_pieces x o g c is = seen x _ _ (entries_in (brackets (read o) (read c)) 0 (view_group read g) ++ in_group (brackets (read o) (read c)) (view_group read g)) is (view-ArrayOf read o g c) refl
 
   pub unwrapped_pieces : (x : Type2) (u : Leaf) (r : Ref) → x ≡ Type2V.Unwrapped u r → in_type2 (view_type2 read x) ≡ operand (view_type2 read x) ∷ in_ref (view_ref read r)
   unwrapped_pieces x u r is = seen x _ _ (in_ref (view_ref read r)) is (view-Unwrapped read u r) refl
 
-  pub choice_of_pieces : (x : Type2) (a o : Leaf) (g : Group) (c : Leaf) → x ≡ Type2V.ChoiceOf a o g c → in_type2 (view_type2 read x) ≡ operand (view_type2 read x) ∷ in_group (view_group read g)
-  choice_of_pieces x a o g c is = seen x _ _ (in_group (view_group read g)) is (view-ChoiceOf read a o g c) refl
+  pub choice_of_pieces : (x : Type2) (a o : Leaf) (g : Group) (c : Leaf) → x ≡ Type2V.ChoiceOf a o g c → in_type2 (view_type2 read x) ≡ operand (view_type2 read x) ∷ in_group (brackets (read o) (read c)) (view_group read g)
+  choice_of_pieces x a o g c is = seen x _ _ (in_group (brackets (read o) (read c)) (view_group read g)) is (view-ChoiceOf read a o g c) refl
 
   pub choice_of_name_pieces : (x : Type2) (a : Leaf) (r : Ref) → x ≡ Type2V.ChoiceOfName a r → in_type2 (view_type2 read x) ≡ operand (view_type2 read x) ∷ in_ref (view_ref read r)
   choice_of_name_pieces x a r is = seen x _ _ (in_ref (view_ref read r)) is (view-ChoiceOfName read a r) refl
@@ -159,20 +163,20 @@ module _ (read : Leaf → Token) where
       ∙ ap in_ref (view-Applied read o a c)
       ∙ ap (λ (z : GenericArg). in_arguments (view_arg read z)) (sym e)
 
-  seen_entry : (x y : GrpEnt) (v : S.GrpEnt) → x ≡ y → view_grpent read y ≡ v → in_entry (view_grpent read x) ≡ in_entry v
-  seen_entry x y v is e = ap (λ (z : GrpEnt). in_entry (view_grpent read z)) is ∙ ap in_entry e
+  seen_entry : (b : Around) (x y : GrpEnt) (v : S.GrpEnt) → x ≡ y → view_grpent read y ≡ v → in_entry b (view_grpent read x) ≡ in_entry b v
+  seen_entry b x y v is e = ap (λ (z : GrpEnt). in_entry b (view_grpent read z)) is ∙ ap (in_entry b) e
 
-  pub typed_pieces : (x : GrpEnt) (o : Option Leaf) (t : Types) → x ≡ GrpEntV.Typed o t → in_entry (view_grpent read x) ≡ in_types (view_types read t)
-  typed_pieces x o t is = seen_entry x _ _ is (view-Typed read o t)
+  pub typed_pieces : (b : Around) (x : GrpEnt) (o : Option Leaf) (t : Types) → x ≡ GrpEntV.Typed o t → in_entry b (view_grpent read x) ≡ in_types (view_types read t)
+  typed_pieces b x o t is = seen_entry b x _ _ is (view-Typed read o t)
 
-  pub keyed_pieces : (x : GrpEnt) (o : Option Leaf) (k : Box MemberKey Global) (t : Types) (y z : MemberKey) → x ≡ GrpEntV.Keyed o k t → y ≡ k.value → z ≡ k.value → in_entry (view_grpent read x) ≡ in_key (view_key read y) ++ (a_value (key_piece (view_key read z)) (view_types read t) ∷ in_types (view_types read t))
-  keyed_pieces x o k t y z is e f =
-      seen_entry x _ _ is (view-Keyed read o k t)
-      ∙ ap (λ (w : MemberKey). in_key (view_key read w) ++ (a_value (key_piece (view_key read k.value)) (view_types read t) ∷ in_types (view_types read t))) (sym e)
-      ∙ ap (λ (w : MemberKey). in_key (view_key read y) ++ (a_value (key_piece (view_key read w)) (view_types read t) ∷ in_types (view_types read t))) (sym f)
+  pub keyed_pieces : (b : Around) (x : GrpEnt) (o : Option Leaf) (k : Box MemberKey Global) (t : Types) (y z : MemberKey) → x ≡ GrpEntV.Keyed o k t → y ≡ k.value → z ≡ k.value → in_entry b (view_grpent read x) ≡ in_key (view_key read y) ++ (a_value b (key_piece (view_key read z)) (view_types read t) ∷ in_types (view_types read t))
+  keyed_pieces b x o k t y z is e f =
+      seen_entry b x _ _ is (view-Keyed read o k t)
+      ∙ ap (λ (w : MemberKey). in_key (view_key read w) ++ (a_value b (key_piece (view_key read k.value)) (view_types read t) ∷ in_types (view_types read t))) (sym e)
+      ∙ ap (λ (w : MemberKey). in_key (view_key read y) ++ (a_value b (key_piece (view_key read w)) (view_types read t) ∷ in_types (view_types read t))) (sym f)
 
-  pub grouped_pieces : (x : GrpEnt) (o : Option Leaf) (p : Leaf) (g : Group) (c : Leaf) → x ≡ GrpEntV.Grouped o p g c → in_entry (view_grpent read x) ≡ entries_in (brackets (read p) (read c)) 0 (view_group read g) ++ in_group (view_group read g)
-  grouped_pieces x o p g c is = seen_entry x _ _ is (view-Grouped read o p g c)
+  pub grouped_pieces : (b : Around) (x : GrpEnt) (o : Option Leaf) (p : Leaf) (g : Group) (c : Leaf) → x ≡ GrpEntV.Grouped o p g c → in_entry b (view_grpent read x) ≡ entries_in (brackets (read p) (read c)) 0 (view_group read g) ++ in_group b (view_group read g)
+  grouped_pieces b x o p g c is = seen_entry b x _ _ is (view-Grouped read o p g c)
 
   seen_key : (x y : MemberKey) (v : S.MemberKey) → x ≡ y → view_key read y ≡ v → in_key (view_key read x) ≡ in_key v
   seen_key x y v is e = ap (λ (z : MemberKey). in_key (view_key read z)) is ∙ ap in_key e
@@ -200,7 +204,7 @@ module _ (read : Leaf → Token) where
   pub type_rule_pieces : (x : Rule) (n : RuleName) (a : AssignT) (t : Types) → x ≡ RuleV.TypeRule n a t → in_rule (view_rule read x) ≡ an_entry the_rule 0 0 (of_types (view_types read t)) ∷ in_types (view_types read t)
   type_rule_pieces x n a t is = ap (λ (z : Rule). in_rule (view_rule read z)) is
 
-  pub group_rule_pieces : (x : Rule) (n : RuleName) (a : AssignG) (e : GrpEnt) → x ≡ RuleV.GroupRule n a e → in_rule (view_rule read x) ≡ own_entries (view_grpent read e) ++ in_entry (view_grpent read e)
+  pub group_rule_pieces : (x : Rule) (n : RuleName) (a : AssignG) (e : GrpEnt) → x ≡ RuleV.GroupRule n a e → in_rule (view_rule read x) ≡ own_entries (view_grpent read e) ++ in_entry the_rule (view_grpent read e)
   group_rule_pieces x n a e is = ap (λ (z : Rule). in_rule (view_rule read z)) is
 
   -- the entries of the body of a rule
@@ -255,3 +259,34 @@ module _ (read : Leaf → Token) where
       by : (xs : List Further) → (out-Types t).others.items ≡ xs → slice_get xs (length xs - 1) ≡ Some x → None ≡ name_of_types (view_types read t)
       by [] e f = cc
       by (y ∷ ys) e f = sym (named_with t (y ∷ ys) e ∙ no_name (S.only (view_type1 read (out-Types t).first)) (view_further read y).0 (view_further read y).1 ys)
+
+-- a type without the parentheses round all of it
+
+pub inner_is : {A : Type 0} (f : A → S.Types) (x : S.Types) (o : Option A) (y : A) → o ≡ Some y → f y ≡ inner_or x (option_map f o)
+inner_is {A = A} f x o y e = sym (ap (λ (z : Option A). inner_or x (option_map f z)) e)
+
+pub no_inner : {A : Type 0} (f : A → S.Types) (x : S.Types) (o : Option A) → o ≡ None → x ≡ inner_or x (option_map f o)
+no_inner {A = A} f x o e = sym (ap (λ (z : Option A). inner_or x (option_map f z)) e)
+
+module _ (read : Leaf → Token) where
+  several_bare : (t : S.Types) (s : Token) (r : S.Type1) (xs : List Further) → bare_types (with_types (S.or t s r) (map (view_further read) xs)) ≡ with_types (S.or t s r) (map (view_further read) xs)
+  several_bare t s r [] = refl
+  several_bare t s r (x ∷ xs) = several_bare (S.or t s r) (view_further read x).0 (view_further read x).1 xs
+
+  types_with : (t : Types) (xs : List Further) → (out-Types t).others.items ≡ xs → view_types read t ≡ with_types (S.only (view_type1 read (out-Types t).first)) (map (view_further read) xs)
+  types_with t xs e = view_out-Types read t ∙ ap (λ (ys : List Further). with_types (S.only (view_type1 read (out-Types t).first)) (map (view_further read) ys)) e
+
+  pub one_bare : (t : Types) → (out-Types t).others.items ≡ [] → bare_type1 (view_type1 read (out-Types t).first) ≡ bare_types (view_types read t)
+  one_bare t e = sym (ap bare_types (types_with t [] e))
+
+  pub one_whole : (t : Types) → (out-Types t).others.items ≡ [] → view_types read t ≡ S.only (view_type1 read (out-Types t).first)
+  one_whole t e = types_with t [] e
+
+  pub all_bare : (t : Types) (x : Further) → slice_get (out-Types t).others.items (length (out-Types t).others.items - 1) ≡ Some x → view_types read t ≡ bare_types (view_types read t)
+  all_bare t x h = by (out-Types t).others.items refl h
+    where
+      by : (xs : List Further) → (out-Types t).others.items ≡ xs → slice_get xs (length xs - 1) ≡ Some x → view_types read t ≡ bare_types (view_types read t)
+      by [] e f = cc
+      by (y ∷ ys) e f =
+          let same = types_with t (y ∷ ys) e in
+          same ∙ sym (several_bare (S.only (view_type1 read (out-Types t).first)) (view_further read y).0 (view_further read y).1 ys) ∙ ap bare_types (sym same)

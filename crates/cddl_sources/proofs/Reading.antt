@@ -38,7 +38,7 @@ may_kept old new p o g (is_of h) = is_of (origin_kept old new p _ g h)
 may_kept old new p o g no_type = no_type
 
 pub key_kept : (old new : Table) (p : Piece) (o : Option TypeOrigin) → Grows old new → IsKeyOf old p o → IsKeyOf new p o
-key_kept old new (a_value k x) o g h = may_kept old new k o g h
+key_kept old new (a_value a k x) o g h = may_kept old new k o g h
 key_kept old new (a_type x) o g h = h
 key_kept old new (a_word w) o g h = h
 key_kept old new (an_entry a k i e) o g h = h
@@ -50,7 +50,7 @@ name_kept old new (Some y) o g h = (h.0, h.1, g.texts h.0 y h.2)
 read_kept : (old new : Table) (read : Leaf → Token) (f : Found) (a : PieceAt) → Grows old new → IsRead old read f a → IsRead new read f a
 read_kept old new read f a g h = record {
   rule = h.rule;
-  is = record { origin = may_kept old new _ a.origin g h.is.origin; key = key_kept old new _ a.key g h.is.key; entry = h.is.entry; name = name_kept old new _ a.name g h.is.name; span = h.is.span };
+  is = record { origin = may_kept old new _ a.origin g h.is.origin; key = key_kept old new _ a.key g h.is.key; around = h.is.around; entry = h.is.entry; name = name_kept old new _ a.name g h.is.name; span = h.is.span };
 }
 
 pub none_read : (t : Table) (read : Leaf → Token) → AreRead t read [] []

@@ -18,12 +18,12 @@ use Rattle.table_nodes.specs.declared.nodes.TypeId.{TypeId}
 use Rattle.table_nodes.specs.declared.table.Table.{Table as Made}
 use Rattle.type_links.specs.declared.link.Link.{Link}
 use Rattle.type_links.specs.declared.link.Link.TheVariants as L
-use Rattle.cddl_sources.specs.Origins.{IsKeyOf, IsNumberOf, IsOriginOf, IsPieceAt, MayBeIn, MayBeOf, Stands as IsThere, is_of, no_type, of_type, of_value as of_keyed, of_word as of_token}
-use Rattle.cddl_sources.specs.Pieces.{Piece, a_type, a_value, a_word, alternatives_of, an_entry, brackets, in_rule, name_there, the_rule, name_of_piece, tokens_of_piece}
-use Rattle.cddl_sources.specs.Places.{AreNoPair, ArePairAt, BeginsWithInstance, IsEntryAt, IsEntryNamed, IsEntryWithin, IsOf, IsOfNoRule, IsPlace, IsShown, IsTypeAt, IsValueAt, Leads, LeadsTo, Make, Stands, StandsAt, a_piece, another, arrives, named, no_rules, of_entry, of_value, one_more, passes, the_body, to_pair, to_type, within}
+use Rattle.cddl_sources.specs.Origins.{AreRound, AreRoundIt, IsKeyOf, IsNumberOf, IsOriginOf, IsPieceAt, MayBeIn, MayBeOf, Stands as IsThere, is_of, no_type, of_type, of_value as of_keyed, of_word as of_token}
+use Rattle.cddl_sources.specs.Pieces.{Around, Piece, a_type, a_value, a_word, alternatives_of, an_entry, brackets, in_rule, name_there, the_rule, name_of_piece, tokens_of_piece}
+use Rattle.cddl_sources.specs.Places.{AreEnds, AreNoPair, ArePairAt, BeginsWithInstance, IsEntryAt, IsEntryNamed, IsEntryWithin, IsOf, IsOfNoRule, IsPlace, IsShown, IsTypeAt, IsValueAt, Leads, LeadsTo, Make, Stands, StandsAt, StandsIn, a_piece, another, are_ends, arrives, named, no_rules, of_entry, of_value, one_more, passes, the_body, to_pair, to_type, within}
 use Rattle.cddl_sources.specs.Sources.{AreSources, IsRuleAt}
 use Rattle.cddl_sources.specs.Spans.{IsNameSpan, IsSpan, IsWithin, Spot, body_tokens}
-use Rattle.cddl_sources.specs.States.{AreNoPairIn, ArePairIn, ArePassed, HasNoRule, HasNumber, IsEntryNamed as IsNamedNumbers, IsEntryOf, IsEntryWithin as IsWithinNumbers, IsFoundAfter, IsFrom, IsStateAfter, IsTold, IsTypeIn, IsValueIn, LeadsIn, arrives as by_none, count_in, counted, flattened, named as by_name, name_number, number_at, number_in, of_entry as by_entry, of_value as by_value, origin_at, passes as gone_by, text_in, to_pair as by_pair, to_type as by_type, within as by_brackets}
+use Rattle.cddl_sources.specs.States.{AreNoPairIn, ArePairIn, ArePassed, HasNoRule, HasNumber, IsEntryNamed as IsNamedNumbers, IsEntryOf, IsEntryWithin as IsWithinNumbers, IsFoundAfter, IsFrom, IsStateAfter, IsTold, IsTypeIn, IsValueFrom, IsValueIn, LeadsIn, arrives as by_none, count_in, counted, flattened, named as by_name, name_number, number_at, number_in, of_entry as by_entry, of_value as by_value, origin_at, passes as gone_by, text_in, to_pair as by_pair, to_type as by_type, within as by_brackets}
 use Rattle.cddl_sources.specs.declared.piece.EntryAt.{EntryAt}
 use Rattle.cddl_sources.specs.declared.piece.PieceAt.{PieceAt}
 use Rattle.cddl_sources.specs.declared.place.Place.{Place}
@@ -273,34 +273,37 @@ module _ (s : Sense) (table : Made) (x : Sources) (k : AreSources s table x) whe
   rules_like : AreLike (rules_of s.tree) x.rules.items
   rules_like = record { told = k.made.rules.told; all = k.made.rules.all }
 
+  -- what is round a group is the part of the text that was found
+
+  round_ends : (around : PieceAt) (r : Around) (m : Option Span) → AreRound r m → m ≡ Some around.span → AreEnds (spot around) r
+  round_ends around (brackets o c) m b e = let span : around.span ≡ b.0 = same_some (sym e ∙ b.1) in are_ends (ap (λ (z : Span). z.first) span ∙ b.2) (ap (λ (z : Span). z.end) span ∙ b.3)
+  round_ends around the_rule m b e = absurd (some_none (sym e ∙ b))
+
+  ends_round : (around : PieceAt) (r : Around) (m : Option Span) → AreEnds (spot around) r → AreRound r m → m ≡ Some around.span
+  ends_round around r m (are_ends opens closes) b = b.1 ∙ ap Some (same_span b.0 around.span (b.2 ∙ sym opens) (b.3 ∙ sym closes))
+
   -- an entry of what was found, in brackets or by its name
   entry_within_at : (around a : PieceAt) (j i : ℕ) → IsWithinNumbers x around j i a → IsEntryWithin (rules_of s.tree) (IsNameOfType s k.terms k.nodes) (spot around) j i (spot a)
-  entry_within_at around a j i h = by st.piece st.is.entry (stands a st)
+  entry_within_at around a j i h = by st.piece st.is.around st.is.entry (stands a st)
     where
       st : IsThere k.made.more (rules_of s.tree) a
       st = k.made.pieces.each a h.contained
 
-      by : (p : Piece) → MayBeIn p a.entry → Stands (rules_of s.tree) (IsNameOfType s k.terms k.nodes) p (spot a) → IsEntryWithin (rules_of s.tree) (IsNameOfType s k.terms k.nodes) (spot around) j i (spot a)
-      by (an_entry (brackets o c) l z e) g there =
+      by : (p : Piece) → AreRoundIt p a.around → MayBeIn p a.entry → Stands (rules_of s.tree) (IsNameOfType s k.terms k.nodes) p (spot a) → IsEntryWithin (rules_of s.tree) (IsNameOfType s k.terms k.nodes) (spot around) j i (spot a)
+      by (an_entry r l z e) b g there =
           let same : h.is.entry ≡ g.0 = same_some (sym h.is.there ∙ g.1) in
           let alternative : l ≡ j = sym g.2.alternative ∙ ap (λ (b : EntryAt). b.alternative) (sym same) ∙ h.is.same_alternative in
           let place : z ≡ i = sym g.2.place ∙ ap (λ (b : EntryAt). b.place) (sym same) ∙ h.is.same_place in
-          let span : around.span ≡ g.2.around.0 = same_some (sym h.is.round ∙ ap (λ (b : EntryAt). b.around) same ∙ g.2.around.1) in
           record {
-            opening = o;
-            closing = c;
+            round = r;
             inner = e;
-            stands = subst (λ (w : ℕ). Stands (rules_of s.tree) (IsNameOfType s k.terms k.nodes) (an_entry (brackets o c) j w e) (spot a)) place (subst (λ (w : ℕ). Stands (rules_of s.tree) (IsNameOfType s k.terms k.nodes) (an_entry (brackets o c) w z e) (spot a)) alternative there);
+            stands = subst (λ (w : ℕ). Stands (rules_of s.tree) (IsNameOfType s k.terms k.nodes) (an_entry r j w e) (spot a)) place (subst (λ (w : ℕ). Stands (rules_of s.tree) (IsNameOfType s k.terms k.nodes) (an_entry r w z e) (spot a)) alternative there);
             rule = h.rule;
-            opens = ap (λ (b : Span). b.first) span ∙ g.2.around.2;
-            closes = ap (λ (b : Span). b.end) span ∙ g.2.around.3;
+            ends = round_ends around r a.around b h.round;
           }
-      by (an_entry the_rule l z e) g there =
-          let same : h.is.entry ≡ g.0 = same_some (sym h.is.there ∙ g.1) in
-          absurd (some_none (sym h.is.round ∙ ap (λ (b : EntryAt). b.around) same ∙ g.2.around))
-      by (a_type z) g there = absurd (some_none (sym h.is.there ∙ g))
-      by (a_word w) g there = absurd (some_none (sym h.is.there ∙ g))
-      by (a_value q z) g there = absurd (some_none (sym h.is.there ∙ g))
+      by (a_type z) b g there = absurd (some_none (sym h.is.there ∙ g))
+      by (a_word w) b g there = absurd (some_none (sym h.is.there ∙ g))
+      by (a_value r q z) b g there = absurd (some_none (sym h.is.there ∙ g))
 
   rule_counted : (i n own : ℕ) → own < count_in n (slice_get x.rules.items i) → (at : RuleAt) × (slice_get x.rules.items i ≡ Some at) × (at.number ≡ n) × (own < at.alternatives)
   rule_counted i n own h = by (slice_get x.rules.items i) refl h
@@ -314,7 +317,7 @@ module _ (s : Sense) (table : Made) (x : Sources) (k : AreSources s table x) whe
           on false f = let none : own < 0 = subst (λ (b : Bool). own < (if b then at.alternatives else 0)) f l in absurd (omega (arith, none))
 
   entry_named_at : (around a : PieceAt) (j i : ℕ) → IsNamedNumbers x around j i a → IsEntryNamed (rules_of s.tree) (IsNameOfType s k.terms k.nodes) (spot around) j i (spot a)
-  entry_named_at around a j i h = by st.piece st.is.entry (stands a st) refl
+  entry_named_at around a j i h = by st.piece st.is.around st.is.entry (stands a st) refl
     where
       st : IsThere k.made.more (rules_of s.tree) a
       st = k.made.pieces.each a h.is.contained
@@ -334,8 +337,8 @@ module _ (s : Sense) (table : Made) (x : Sources) (k : AreSources s table x) whe
       number : slice_get k.made.more.texts h.name ≡ Some (name_in st.rule)
       number = ap (slice_get k.made.more.texts) (sym at.2) ∙ rule.number
 
-      by : (p : Piece) → MayBeIn p a.entry → (there : Stands (rules_of s.tree) (IsNameOfType s k.terms k.nodes) p (spot a)) → there.rule ≡ st.rule → IsEntryNamed (rules_of s.tree) (IsNameOfType s k.terms k.nodes) (spot around) j i (spot a)
-      by (an_entry the_rule l z e) g there is =
+      by : (p : Piece) → AreRoundIt p a.around → MayBeIn p a.entry → (there : Stands (rules_of s.tree) (IsNameOfType s k.terms k.nodes) p (spot a)) → there.rule ≡ st.rule → IsEntryNamed (rules_of s.tree) (IsNameOfType s k.terms k.nodes) (spot around) j i (spot a)
+      by (an_entry the_rule l z e) b g there is =
           let same : h.is.is.entry ≡ g.0 = same_some (sym h.is.is.there ∙ g.1) in
           let alternative : l ≡ h.own = sym g.2.alternative ∙ ap (λ (b : EntryAt). b.alternative) (sym same) ∙ h.is.is.same_alternative in
           let place : z ≡ i = sym g.2.place ∙ ap (λ (b : EntryAt). b.place) (sym same) ∙ h.is.is.same_place in
@@ -358,12 +361,10 @@ module _ (s : Sense) (table : Made) (x : Sources) (k : AreSources s table x) whe
             make = make h.name (name_in st.rule) number (drop (a.rule + 1) (rules_of s.tree)) (drop (a.rule + 1) x.rules.items) (like_drop (a.rule + 1) (rules_of s.tree) x.rules.items rules_like);
             whole = h.is_alternative.after;
           }
-      by (an_entry (brackets o c) l z e) g there is =
-          let same : h.is.is.entry ≡ g.0 = same_some (sym h.is.is.there ∙ g.1) in
-          absurd (some_none (sym g.2.around.1 ∙ ap (λ (b : EntryAt). b.around) (sym same) ∙ h.is.is.round))
-      by (a_type z) g there is = absurd (some_none (sym h.is.is.there ∙ g))
-      by (a_word w) g there is = absurd (some_none (sym h.is.is.there ∙ g))
-      by (a_value q z) g there is = absurd (some_none (sym h.is.is.there ∙ g))
+      by (an_entry (brackets o c) l z e) b g there is = absurd (some_none (sym b.1 ∙ h.is.round))
+      by (a_type z) b g there is = absurd (some_none (sym h.is.is.there ∙ g))
+      by (a_word w) b g there is = absurd (some_none (sym h.is.is.there ∙ g))
+      by (a_value r q z) b g there is = absurd (some_none (sym h.is.is.there ∙ g))
 
   entry_at : (from : Option PieceAt) (j i : ℕ) (a : PieceAt) → IsEntryOf x from j i a → IsEntryAt (rules_of s.tree) (IsNameOfType s k.terms k.nodes) (option_map spot from) j i (spot a)
   entry_at from j i a (by_brackets {around = b} h) = within (entry_within_at b a j i h)
@@ -371,11 +372,10 @@ module _ (s : Sense) (table : Made) (x : Sources) (k : AreSources s table x) whe
 
   entry_within_in : (around : PieceAt) (j i : ℕ) (at : Spot) → IsEntryWithin (rules_of s.tree) (IsNameOfType s k.terms k.nodes) (spot around) j i at → (a : PieceAt) × IsWithinNumbers x around j i a
   entry_within_in around j i at h =
-      let w = piece_there (an_entry (brackets h.opening h.closing) j i h.inner) at h.stands in
+      let w = piece_there (an_entry h.round j i h.inner) at h.stands in
       let g = w.3.entry in
-      let b = g.2.around in
       let rule : w.0.rule ≡ around.rule = ap (λ (z : Spot). z.rule) w.2 ∙ h.rule in
-      (w.0, record { contained = w.1; rule = rule; is = record { entry = g.0; there = g.1; round = b.1 ∙ ap Some (same_span b.0 around.span (b.2 ∙ sym h.opens) (b.3 ∙ sym h.closes)); same_alternative = g.2.alternative; same_place = g.2.place } })
+      (w.0, record { contained = w.1; rule = rule; round = ends_round around h.round w.0.around h.ends w.3.around; is = record { entry = g.0; there = g.1; same_alternative = g.2.alternative; same_place = g.2.place } })
 
   number_there : (m : Option ℕ) (y : Text) → text_at k.made.more m ≡ Some y → (n : ℕ) × (m ≡ Some n) × (slice_get k.made.more.texts n ≡ Some y)
   number_there None y e = cc
@@ -404,7 +404,7 @@ module _ (s : Sense) (table : Made) (x : Sources) (k : AreSources s table x) whe
             less = let l = h.less in let c = its.alternatives in omega (arith, l, c, count);
             after = ap (λ (r : ℕ). h.own + counted n.0 (drop (r + 1) x.rules.items)) rule ∙ ap (λ (m : ℕ). h.own + m) after ∙ h.whole;
           };
-          is = record { contained = w.1; rule = refl; is = record { entry = g.0; there = g.1; round = g.2.around; same_alternative = g.2.alternative; same_place = g.2.place } };
+          is = record { contained = w.1; rule = refl; round = w.3.around; is = record { entry = g.0; there = g.1; same_alternative = g.2.alternative; same_place = g.2.place } };
         },
       )
 
@@ -439,20 +439,21 @@ module _ (s : Sense) (table : Made) (x : Sources) (k : AreSources s table x) whe
         let st = k.made.pieces.each a h.is.contained in
         record { piece = st.piece; stands = stands_at from a h.inside st; is = named_piece st.piece h.origin m h.there (origin_of st.piece a.origin h.origin st.is.origin h.is.same) }
 
+    stands_in : (from : Option PieceAt) (a : PieceAt) → IsValueFrom x n from a → (st : IsThere k.made.more (rules_of s.tree) a) (r : Around) → AreRound r a.around → StandsIn (rules_of s.tree) (IsNameOfType s k.terms k.nodes) y (option_map spot from) r st.piece (spot a)
+    stands_in None a h st r b = stands_at None a h st
+    stands_in (Some o) a h st r b = (stands a st, h.0, round_ends o r a.around b h.1)
+
     value_at : (from : Option PieceAt) (key m : Link) (a : PieceAt) → IsValueIn x n from key m a → IsValueAt (rules_of s.tree) (IsNameOfType s k.terms k.nodes) y (option_map spot from) key m (spot a)
-    value_at from key m a h = by st.piece st.is.key t.0 t.1
+    value_at from key m a h = by st.piece st.is.key st.is.around (stands_in from a h.inside st) (named_piece st.piece h.origin m h.there (origin_of st.piece a.origin h.origin st.is.origin h.is.same))
       where
         st : IsThere k.made.more (rules_of s.tree) a
-        st = k.made.pieces.each a h.is.is.contained
+        st = k.made.pieces.each a h.is.contained
 
-        t : (StandsAt (rules_of s.tree) (IsNameOfType s k.terms k.nodes) y (option_map spot from) st.piece (spot a)) × IsOf (rules_of s.tree) (IsNameOfType s k.terms k.nodes) st.piece m
-        t = (stands_at from a h.is.inside st, named_piece st.piece h.is.origin m h.is.there (origin_of st.piece a.origin h.is.origin st.is.origin h.is.is.same))
-
-        by : (p : Piece) → IsKeyOf k.made.more p a.key → StandsAt (rules_of s.tree) (IsNameOfType s k.terms k.nodes) y (option_map spot from) p (spot a) → IsOf (rules_of s.tree) (IsNameOfType s k.terms k.nodes) p m → IsValueAt (rules_of s.tree) (IsNameOfType s k.terms k.nodes) y (option_map spot from) key m (spot a)
-        by (a_value q z) g there is = record { key_piece = q; types = z; stands = there; is_key = named_piece q h.origin key h.there (origin_of q a.key h.origin g h.same); is = is }
-        by (a_type z) g there is = absurd (some_none (sym h.same ∙ g))
-        by (a_word w) g there is = absurd (some_none (sym h.same ∙ g))
-        by (an_entry o j i e) g there is = absurd (some_none (sym h.same ∙ g))
+        by : (p : Piece) → IsKeyOf k.made.more p a.key → AreRoundIt p a.around → ((r : Around) → AreRound r a.around → StandsIn (rules_of s.tree) (IsNameOfType s k.terms k.nodes) y (option_map spot from) r p (spot a)) → IsOf (rules_of s.tree) (IsNameOfType s k.terms k.nodes) p m → IsValueAt (rules_of s.tree) (IsNameOfType s k.terms k.nodes) y (option_map spot from) key m (spot a)
+        by (a_value r q z) g b there is = record { around = r; key_piece = q; types = z; stands = there r b; is_key = named_piece q h.key_origin key h.key_there (origin_of q a.key h.key_origin g h.same); is = is }
+        by (a_type z) g b there is = absurd (some_none (sym h.same ∙ g))
+        by (a_word w) g b there is = absurd (some_none (sym h.same ∙ g))
+        by (an_entry o j i e) g b there is = absurd (some_none (sym h.same ∙ g))
 
     pair_at : (from : Option PieceAt) (first second : Link) (a : PieceAt) → ArePairIn x n from first second a → ArePairAt (rules_of s.tree) (IsNameOfType s k.terms k.nodes) y (option_map spot from) first second (spot a)
     pair_at from first second a (by_value v) = of_value (value_at from first second a v)
@@ -479,13 +480,19 @@ module _ (s : Sense) (table : Made) (x : Sources) (k : AreSources s table x) whe
         let o = type_origin h.piece m h.is w.0.origin w.3.origin in
         (w.0, record { origin = o.0; there = o.1; is = record { contained = w.1; same = o.2 }; inside = w.2 })
 
+    found_in : (from : Option PieceAt) (r : Around) (q : Piece) (z : S.Types) (at : Spot) → StandsIn (rules_of s.tree) (IsNameOfType s k.terms k.nodes) y (option_map spot from) r (a_value r q z) at → (a : PieceAt) × Contains x.pieces.items a × IsValueFrom x n from a × IsPieceAt k.made.more (a_value r q z) a
+    found_in None r q z at h = found_at None (a_value r q z) at h
+    found_in (Some o) r q z at h =
+        let w = piece_there (a_value r q z) at h.0 in
+        (w.0, w.1, (ap (λ (z : Spot). z.rule) w.2 ∙ h.1, ends_round o r w.0.around h.2 w.3.around), w.3)
+
     value_in : (from : Option PieceAt) (key m : Link) (at : Spot) → IsValueAt (rules_of s.tree) (IsNameOfType s k.terms k.nodes) y (option_map spot from) key m at → (a : PieceAt) × IsValueIn x n from key m a
     value_in from key m at h =
-        let p : Piece = a_value h.key_piece h.types in
-        let w = found_at from p at h.stands in
+        let p : Piece = a_value h.around h.key_piece h.types in
+        let w = found_in from h.around h.key_piece h.types at h.stands in
         let o = type_origin p m h.is w.0.origin w.3.origin in
         let u = type_origin h.key_piece key h.is_key w.0.key w.3.key in
-        (w.0, record { origin = u.0; there = u.1; same = u.2; is = record { origin = o.0; there = o.1; is = record { contained = w.1; same = o.2 }; inside = w.2 } })
+        (w.0, record { key_origin = u.0; key_there = u.1; same = u.2; origin = o.0; there = o.1; is = record { contained = w.1; same = o.2 }; inside = w.2 })
 
     pair_in : (from : Option PieceAt) (first second : Link) (at : Spot) → ArePairAt (rules_of s.tree) (IsNameOfType s k.terms k.nodes) y (option_map spot from) first second at → (a : PieceAt) × ArePairIn x n from first second a
     pair_in from first second at (of_value v) = let w = value_in from first second at v in (w.0, by_value w.1)

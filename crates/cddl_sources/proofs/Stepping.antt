@@ -9,7 +9,7 @@ use Rattle.table_making.specs.declared.origin.TypeOrigin.TheVariants as T
 use Rattle.table_nodes.specs.declared.nodes.TypeId.{TypeId}
 use Rattle.type_links.specs.declared.link.Link.{Link}
 use Rattle.type_links.specs.declared.link.Link.TheVariants as L
-use Rattle.cddl_sources.specs.States.{ArePairIn, ArePassed, HasNoRule, HasNumber, IsAlternative, IsEntryNamed, IsEntryOf, IsEntryOfRule, IsEntryWithin, IsFoundAfter, IsFrom, IsRuleIn, IsOfOrigin, IsStarted, IsStateAfter, IsStateOf, IsTypeIn, IsValueIn, LeadsIn, arrives, count_in, counted, named, of_entry, of_value, origin_at, passes, to_pair, to_type, with_held, within}
+use Rattle.cddl_sources.specs.States.{ArePairIn, ArePassed, HasNoRule, HasNumber, IsAlternative, IsEntryNamed, IsEntryOf, IsEntryOfRule, IsEntryWithin, IsFoundAfter, IsFrom, IsRuleIn, IsOfOrigin, IsStarted, IsStateAfter, IsStateOf, IsTypeIn, IsValueFrom, IsValueIn, LeadsIn, arrives, count_in, counted, named, of_entry, of_value, origin_at, passes, to_pair, to_type, with_held, within}
 use Rattle.cddl_sources.specs.declared.piece.PieceAt.{PieceAt}
 use Rattle.cddl_sources.specs.declared.place.State.{State}
 use Rattle.cddl_sources.specs.declared.sources.RuleAt.{RuleAt}
@@ -102,6 +102,10 @@ from_rule : (x : Sources) (n : ℕ) (from : Option PieceAt) (a : PieceAt) → Is
 from_rule x n None a h g = (h.at, h.there)
 from_rule x n (Some o) a h g = (g.0, ap (slice_get x.rules.items) h.0 ∙ g.1)
 
+value_rule : (x : Sources) (n : ℕ) (from : Option PieceAt) (a : PieceAt) → IsValueFrom x n from a → IfSome from (λ b. IsRuleIn x b.rule) → IsRuleIn x a.rule
+value_rule x n None a h g = (h.at, h.there)
+value_rule x n (Some o) a h g = (g.0, ap (slice_get x.rules.items) h.0 ∙ g.1)
+
 counted_rule : (x : Sources) (n own i : ℕ) → own < count_in n (slice_get x.rules.items i) → IsRuleIn x i
 counted_rule x n own i h = by (slice_get x.rules.items i) refl h
   where
@@ -114,7 +118,7 @@ entry_rule x (within h) g = (g.0, ap (slice_get x.rules.items) h.rule ∙ g.1)
 entry_rule x {a = a} (named h) g = counted_rule x h.name h.own a.rule h.is_alternative.less
 
 pair_rule : (x : Sources) (n : ℕ) {from : Option PieceAt} {first second : Link} {a : PieceAt} → ArePairIn x n from first second a → IfSome from (λ b. IsRuleIn x b.rule) → IsRuleIn x a.rule
-pair_rule x n (of_value v) g = from_rule x n _ _ v.is.inside g
+pair_rule x n (of_value v) g = value_rule x n _ _ v.inside g
 pair_rule x n (of_entry e) g = entry_rule x e g
 
 -- what was found is in a rule
@@ -138,11 +142,11 @@ of_same x a o p e h = record { contained = h.contained; same = h.same ∙ ap Som
 pub no_type : (x : Sources) (n : ℕ) (from : Option PieceAt) (id : Link) (a : PieceAt) {o : TypeOrigin} → origin_at x id ≡ Some o → ((b : PieceAt) → IsOfOrigin x o b → IsFrom x n from b → ⊥) → IsTypeIn x n from id a → ⊥
 no_type x n from id a {o = o} there none h = none a (of_same x a h.origin o (same_some (sym h.there ∙ there)) h.is) h.inside
 
-pub any_value : (x : Sources) (n : ℕ) (from : Option PieceAt) (key id : Link) (a : PieceAt) {k o : TypeOrigin} → origin_at x key ≡ Some k → origin_at x id ≡ Some o → IsOfOrigin x o a → IsFrom x n from a → a.key ≡ Some k → IsValueIn x n from key id a
-any_value x n from key id a {k = k} there is_there is inside same = record { origin = k; there = there; same = same; is = any_type x n from id a is_there is inside }
+pub any_value : (x : Sources) (n : ℕ) (from : Option PieceAt) (key id : Link) (a : PieceAt) {k o : TypeOrigin} → origin_at x key ≡ Some k → origin_at x id ≡ Some o → IsOfOrigin x o a → IsValueFrom x n from a → a.key ≡ Some k → IsValueIn x n from key id a
+any_value x n from key id a {k = k} {o = o} there is_there is inside same = record { key_origin = k; key_there = there; same = same; origin = o; there = is_there; is = is; inside = inside }
 
-pub no_value : (x : Sources) (n : ℕ) (from : Option PieceAt) (key id : Link) (a : PieceAt) {k o : TypeOrigin} → origin_at x key ≡ Some k → origin_at x id ≡ Some o → ((b : PieceAt) → IsOfOrigin x o b → IsFrom x n from b → b.key ≡ Some k → ⊥) → IsValueIn x n from key id a → ⊥
-no_value x n from key id a {k = k} {o = o} there is_there none h = none a (of_same x a h.is.origin o (same_some (sym h.is.there ∙ is_there)) h.is.is) h.is.inside (h.same ∙ ap Some (same_some (sym h.there ∙ there)))
+pub no_value : (x : Sources) (n : ℕ) (from : Option PieceAt) (key id : Link) (a : PieceAt) {k o : TypeOrigin} → origin_at x key ≡ Some k → origin_at x id ≡ Some o → ((b : PieceAt) → IsOfOrigin x o b → IsValueFrom x n from b → b.key ≡ Some k → ⊥) → IsValueIn x n from key id a → ⊥
+no_value x n from key id a {k = k} {o = o} there is_there none h = none a (of_same x a h.origin o (same_some (sym h.there ∙ is_there)) h.is) h.inside (h.same ∙ ap Some (same_some (sym h.key_there ∙ there)))
 
 same_alternative : {j k : ℕ} → L.Alternative j ≡ L.Alternative k → j ≡ k
 same_alternative e = cc
@@ -240,19 +244,19 @@ pair_value x n from first second a e (of_value v) = v
 pair_value x n from first second a e (of_entry h) = cc
 
 pub pair_entry : (x : Sources) (n : ℕ) (from : Option PieceAt) (first second : Link) (a : PieceAt) {k i : ℕ} → first ≡ L.Alternative k → second ≡ L.Entry i → ArePairIn x n from first second a → IsEntryOf x from k i a
-pair_entry x n from first second a {k = k} e f (of_value v) = absurd (no_some (sym (ap (origin_at x) e) ∙ v.there))
+pair_entry x n from first second a {k = k} e f (of_value v) = absurd (no_some (sym (ap (origin_at x) e) ∙ v.key_there))
 pair_entry x n from first second a {i = i} e f (of_entry {k = l} {i = z} h) = subst (λ (j : ℕ). IsEntryOf x from j i a) (same_alternative e) (subst (λ (j : ℕ). IsEntryOf x from l j a) (same_place f) h)
 
 pub no_pair_entry : (x : Sources) (n : ℕ) (from : Option PieceAt) (first second : Link) (a : PieceAt) {i : ℕ} → first ≡ L.Entry i → ArePairIn x n from first second a → ⊥
-no_pair_entry x n from first second a e (of_value v) = no_some (sym (ap (origin_at x) e) ∙ v.there)
+no_pair_entry x n from first second a e (of_value v) = no_some (sym (ap (origin_at x) e) ∙ v.key_there)
 no_pair_entry x n from first second a e (of_entry h) = cc
 
 pub no_pair_type : (x : Sources) (n : ℕ) (from : Option PieceAt) (first second : Link) (a : PieceAt) {k : ℕ} {m : TypeId} → first ≡ L.Alternative k → second ≡ L.Type m → ArePairIn x n from first second a → ⊥
-no_pair_type x n from first second a e f (of_value v) = no_some (sym (ap (origin_at x) e) ∙ v.there)
+no_pair_type x n from first second a e f (of_value v) = no_some (sym (ap (origin_at x) e) ∙ v.key_there)
 no_pair_type x n from first second a e f (of_entry h) = cc
 
 pub no_pair_alternative : (x : Sources) (n : ℕ) (from : Option PieceAt) (first second : Link) (a : PieceAt) {k j : ℕ} → first ≡ L.Alternative k → second ≡ L.Alternative j → ArePairIn x n from first second a → ⊥
-no_pair_alternative x n from first second a e f (of_value v) = no_some (sym (ap (origin_at x) e) ∙ v.there)
+no_pair_alternative x n from first second a e f (of_value v) = no_some (sym (ap (origin_at x) e) ∙ v.key_there)
 no_pair_alternative x n from first second a e f (of_entry h) = cc
 
 pub some_then : {A : Type 0} (o : Option A) (P Q : A → Type 0) → ((a : A) → P a → Q a) → IfSome o P → IfSome o Q

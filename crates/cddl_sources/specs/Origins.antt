@@ -20,7 +20,7 @@ use Rattle.cddl_sources.specs.declared.span.Span.{Span}
 pub data IsOriginOf (t : Table) : Piece → TypeOrigin → Type 0 where
   of_type : {x : S.Types} {n : ℕ} → IsTerm t n (term_of x) → IsOriginOf t (a_type x) (T.Row n)
   of_word : {w : Token} {k : ℕ} → slice_get t.texts k ≡ Some (text_of w) → IsOriginOf t (a_word w) (T.Word k)
-  of_value : {k : Piece} {x : S.Types} {n : ℕ} → IsTerm t n (term_of x) → IsOriginOf t (a_value k x) (T.Row n)
+  of_value : {a : Around} {k : Piece} {x : S.Types} {n : ℕ} → IsTerm t n (term_of x) → IsOriginOf t (a_value a k x) (T.Row n)
 
 -- what the piece is of, which an entry is not
 pub data MayBeOf (t : Table) : Piece → Option TypeOrigin → Type 0 where
@@ -29,7 +29,7 @@ pub data MayBeOf (t : Table) : Piece → Option TypeOrigin → Type 0 where
 
 -- what the key is of, where the piece is a value's type
 abbrev pub IsKeyOf : Table → Piece → Option TypeOrigin → Type 0
-IsKeyOf t (a_value k x) o = MayBeOf t k o
+IsKeyOf t (a_value a k x) o = MayBeOf t k o
 IsKeyOf t (a_type x) o = o ≡ None
 IsKeyOf t (a_word w) o = o ≡ None
 IsKeyOf t (an_entry a k i e) o = o ≡ None
@@ -39,18 +39,24 @@ abbrev pub AreRound : Around → Option Span → Type 0
 AreRound (brackets o c) m = (b : Span) × (m ≡ Some b) × (b.first ≡ o.start) × (b.end ≡ c.end)
 AreRound the_rule m = m ≡ None
 
+-- the same of the group of an entry, and of the map's group in which a value is
+abbrev pub AreRoundIt : Piece → Option Span → Type 0
+AreRoundIt (an_entry a k i e) m = AreRound a m
+AreRoundIt (a_value a k x) m = AreRound a m
+AreRoundIt (a_type x) m = m ≡ None
+AreRoundIt (a_word w) m = m ≡ None
+
 -- where the entry stands in its group
-pub record IsEntryIn (a : Around) (k i : ℕ) (at : EntryAt) : Type 0 where
-  pub around : AreRound a at.around
+pub record IsEntryIn (k i : ℕ) (at : EntryAt) : Type 0 where
   pub alternative : at.alternative ≡ k
   pub place : at.place ≡ i
 
 -- the same, where the piece is an entry
 abbrev pub MayBeIn : Piece → Option EntryAt → Type 0
-MayBeIn (an_entry a k i e) m = (at : EntryAt) × (m ≡ Some at) × IsEntryIn a k i at
+MayBeIn (an_entry a k i e) m = (at : EntryAt) × (m ≡ Some at) × IsEntryIn k i at
 MayBeIn (a_type x) m = m ≡ None
 MayBeIn (a_word w) m = m ≡ None
-MayBeIn (a_value k x) m = m ≡ None
+MayBeIn (a_value a k x) m = m ≡ None
 
 -- the number of a name, if there is one
 abbrev pub IsNumberOf : Table → Option Text → Option ℕ → Type 0
@@ -61,6 +67,7 @@ IsNumberOf t (Some y) o = (n : ℕ) × (o ≡ Some n) × (slice_get t.texts n �
 pub record IsPieceAt (t : Table) (p : Piece) (a : PieceAt) : Type 0 where
   pub origin : MayBeOf t p a.origin
   pub key : IsKeyOf t p a.key
+  pub around : AreRoundIt p a.around
   pub entry : MayBeIn p a.entry
   pub name : IsNumberOf t (name_there p) a.name
   pub span : IsSpan (tokens_of_piece p) a.span

@@ -22,12 +22,12 @@ inner_of (S.typed o t) = of_types t
 inner_of (S.keyed o k t) = of_types t
 inner_of (S.grouped o p g c) = of_group p g c
 
--- a type; a bareword that is a key; the type of the value in an entry that has this key; or an entry of a group, with so many
--- alternatives after its own, and so many entries after it there
+-- a type; a bareword that is a key; the type of the value in an entry that has this key, with what is round the map's group; or an
+-- entry of a group, with so many alternatives after its own, and so many entries after it there
 pub data Piece : Type 0 where
   a_type : S.Types → Piece
   a_word : Token → Piece
-  a_value : (key : Piece) → S.Types → Piece
+  a_value : Around → (key : Piece) → S.Types → Piece
   an_entry : Around → (alternative place : ℕ) → Inner → Piece
 
 -- an operand by itself, which is a type too
@@ -73,6 +73,7 @@ alternatives_of (S.type_rule n a t) = 1
 alternatives_of (S.group_rule n a e) = own_count e
 
 -- Each type with those in it, in the order of the text: a whole choice, its members, their operands, and what these have in them.
+-- Parentheses in a group are of that group, so what is round it is round them.
 abbrev mutual
   pub in_types : S.Types → List Piece
   in_types (S.only r) = a_type (S.only r) ∷ in_type1 r
@@ -90,10 +91,10 @@ abbrev mutual
   in_type2 (S.literal v) = operand (S.literal v) ∷ []
   in_type2 (S.typename r) = operand (S.typename r) ∷ in_ref r
   in_type2 (S.parens o t c) = operand (S.parens o t c) ∷ in_types t
-  in_type2 (S.map_of o g c) = operand (S.map_of o g c) ∷ in_group g
-  in_type2 (S.array_of o g c) = operand (S.array_of o g c) ∷ (entries_in (brackets o c) 0 g ++ in_group g)
+  in_type2 (S.map_of o g c) = operand (S.map_of o g c) ∷ in_group (brackets o c) g
+  in_type2 (S.array_of o g c) = operand (S.array_of o g c) ∷ (entries_in (brackets o c) 0 g ++ in_group (brackets o c) g)
   in_type2 (S.unwrapped u r) = operand (S.unwrapped u r) ∷ in_ref r
-  in_type2 (S.choice_of a o g c) = operand (S.choice_of a o g c) ∷ in_group g
+  in_type2 (S.choice_of a o g c) = operand (S.choice_of a o g c) ∷ in_group (brackets o c) g
   in_type2 (S.choice_of_name a r) = operand (S.choice_of_name a r) ∷ in_ref r
   in_type2 (S.tagged o t c) = operand (S.tagged o t c) ∷ in_types t
   in_type2 (S.tagged_by o h a p t c) = operand (S.tagged_by o h a p t c) ∷ (in_types h ++ in_types t)
@@ -108,18 +109,18 @@ abbrev mutual
   in_arguments (S.argument r) = in_type1 r
   in_arguments (S.arguments a c r) = in_arguments a ++ in_type1 r
 
-  pub in_group : S.Group → List Piece
-  in_group (S.sole es) = in_entries es
-  in_group (S.orelse g s es) = in_group g ++ in_entries es
+  pub in_group : Around → S.Group → List Piece
+  in_group a (S.sole es) = in_entries a es
+  in_group a (S.orelse g s es) = in_group a g ++ in_entries a es
 
-  pub in_entries : S.GrpChoice → List Piece
-  in_entries S.no_entries = []
-  in_entries (S.entries es e c) = in_entries es ++ in_entry e
+  pub in_entries : Around → S.GrpChoice → List Piece
+  in_entries a S.no_entries = []
+  in_entries a (S.entries es e c) = in_entries a es ++ in_entry a e
 
-  pub in_entry : S.GrpEnt → List Piece
-  in_entry (S.typed o t) = in_types t
-  in_entry (S.keyed o k t) = in_key k ++ (a_value (key_piece k) t ∷ in_types t)
-  in_entry (S.grouped o p g c) = entries_in (brackets p c) 0 g ++ in_group g
+  pub in_entry : Around → S.GrpEnt → List Piece
+  in_entry a (S.typed o t) = in_types t
+  in_entry a (S.keyed o k t) = in_key k ++ (a_value a (key_piece k) t ∷ in_types t)
+  in_entry a (S.grouped o p g c) = entries_in (brackets p c) 0 g ++ in_group a g
 
   pub in_key : S.MemberKey → List Piece
   in_key (S.type_key r u a) = in_type1 r
@@ -128,7 +129,7 @@ abbrev mutual
 
 abbrev pub in_rule : S.Rule → List Piece
 in_rule (S.type_rule n a t) = an_entry the_rule 0 0 (of_types t) ∷ in_types t
-in_rule (S.group_rule n a e) = own_entries e ++ in_entry e
+in_rule (S.group_rule n a e) = own_entries e ++ in_entry the_rule e
 
 -- each with the place of its rule, from the place k on
 abbrev pub placed : ℕ → List Piece → List (ℕ × Piece)
@@ -142,7 +143,7 @@ rule_by_rule k (r ∷ rs) = placed k (in_rule r) ++ rule_by_rule (k + 1) rs
 abbrev pub name_of_piece : Piece → Option TypeName
 name_of_piece (a_type x) = Some (type (term_of x))
 name_of_piece (a_word t) = Some (word (text_of t))
-name_of_piece (a_value k x) = Some (type (term_of x))
+name_of_piece (a_value a k x) = Some (type (term_of x))
 name_of_piece (an_entry a k i e) = None
 
 -- The name that stands there alone as an entry, if one does. It may be that of a group.
@@ -178,15 +179,44 @@ name_there (an_entry a k i (of_types t)) = name_of_types t
 name_there (an_entry a k i (of_group o g c)) = None
 name_there (a_type x) = None
 name_there (a_word t) = None
-name_there (a_value k x) = None
+name_there (a_value a k x) = None
+
+-- A type without the parentheses round all of it.
+
+abbrev pub inner_or : S.Types → Option S.Types → S.Types
+inner_or x None = x
+inner_or x (Some y) = y
+
+abbrev mutual
+  pub bare_types : S.Types → S.Types
+  bare_types (S.only r) = bare_type1 r
+  bare_types (S.or t s r) = S.or t s r
+
+  pub bare_type1 : S.Type1 → S.Types
+  bare_type1 (S.one x) = bare_type2 x
+  bare_type1 (S.operation x o y) = S.only (S.operation x o y)
+
+  pub bare_type2 : S.Type2 → S.Types
+  bare_type2 (S.parens o t c) = bare_types t
+  bare_type2 (S.literal v) = S.only (S.one (S.literal v))
+  bare_type2 (S.typename r) = S.only (S.one (S.typename r))
+  bare_type2 (S.map_of o g c) = S.only (S.one (S.map_of o g c))
+  bare_type2 (S.array_of o g c) = S.only (S.one (S.array_of o g c))
+  bare_type2 (S.unwrapped u r) = S.only (S.one (S.unwrapped u r))
+  bare_type2 (S.choice_of a o g c) = S.only (S.one (S.choice_of a o g c))
+  bare_type2 (S.choice_of_name a r) = S.only (S.one (S.choice_of_name a r))
+  bare_type2 (S.tagged o t c) = S.only (S.one (S.tagged o t c))
+  bare_type2 (S.tagged_by o h a p t c) = S.only (S.one (S.tagged_by o h a p t c))
+  bare_type2 (S.simple_by o h c) = S.only (S.one (S.simple_by o h c))
+  bare_type2 (S.hash t) = S.only (S.one (S.hash t))
 
 -- what is told of an entry: its type, or its group in parentheses
 abbrev pub tokens_of_inner : Inner → List S.Lexeme
-tokens_of_inner (of_types t) = S.flat_types t
+tokens_of_inner (of_types t) = S.flat_types (bare_types t)
 tokens_of_inner (of_group o g c) = (ParenOpen, o) ∷ (S.flat_group g ++ (ParenClose, c) ∷ [])
 
 abbrev pub tokens_of_piece : Piece → List S.Lexeme
-tokens_of_piece (a_type x) = S.flat_types x
+tokens_of_piece (a_type x) = S.flat_types (bare_types x)
 tokens_of_piece (a_word t) = (Name, t) ∷ []
-tokens_of_piece (a_value k x) = S.flat_types x
+tokens_of_piece (a_value a k x) = S.flat_types (bare_types x)
 tokens_of_piece (an_entry a k i e) = tokens_of_inner e

@@ -8,7 +8,7 @@ use Rattle.cddl_language.specs.Terms.{Ref, Text, name_of}
 use Rattle.table_nodes.specs.declared.nodes.TypeId.{TypeId}
 use Rattle.type_links.specs.declared.link.Link.{Link}
 use Rattle.type_links.specs.declared.link.Link.TheVariants as L
-use Rattle.cddl_sources.specs.Pieces.{Inner, Piece, a_value, alternatives_of, an_entry, brackets, in_rule, name_of_piece, name_there, the_rule, tokens_of_piece}
+use Rattle.cddl_sources.specs.Pieces.{Around, Inner, Piece, a_value, alternatives_of, an_entry, brackets, in_rule, name_of_piece, name_there, the_rule, tokens_of_piece}
 use Rattle.cddl_sources.specs.Spans.{IsNameSpan, IsSpan, IsWithin, Spot, body_tokens}
 use Rattle.cddl_sources.specs.declared.place.Place.{Place}
 use Rattle.cddl_sources.specs.declared.span.Span.{Span}
@@ -18,6 +18,10 @@ abbrev pub LeadsTo : (TypeName → TypeId → Type 0) → TypeName → Link → 
 LeadsTo names y (L.Type m) = names y m
 LeadsTo names y (L.Alternative k) = ⊥
 LeadsTo names y (L.Entry k) = ⊥
+
+-- what is round a group are the ends of this part of the text
+pub data AreEnds (o : Spot) : Around → Type 0 where
+  are_ends : {opening closing : Token} → o.span.first ≡ opening.start → o.span.end ≡ closing.end → AreEnds o (brackets opening closing)
 
 -- The rules of the text, and the names for which each type of the table stands.
 module _ (rules : List S.Rule) (names : TypeName → TypeId → Type 0) where
@@ -52,23 +56,28 @@ module _ (rules : List S.Rule) (names : TypeName → TypeId → Type 0) where
     pub stands : StandsAt n from piece at
     pub is : IsOf piece m
 
-  -- the same of the value's type in an entry that has these types as its key and as its value
+  -- There stands the piece, in a group with this round it: that of the map which the other part of the text is, or any in a rule of
+  -- this name, if none is given.
+  abbrev pub StandsIn : Text → Option Spot → Around → Piece → Spot → Type 0
+  StandsIn n None a p at = (h : Stands p at) × (name_in h.rule ≡ n)
+  StandsIn n (Some o) a p at = Stands p at × (at.rule ≡ o.rule) × AreEnds o a
+
+  -- the value's type in an entry of the map that has these types as its key and as its value
   pub record IsValueAt (n : Text) (from : Option Spot) (key m : Link) (at : Spot) : Type 0 where
+    pub around : Around
     pub key_piece : Piece
     pub types : S.Types
-    pub stands : StandsAt n from (a_value key_piece types) at
+    pub stands : StandsIn n from around (a_value around key_piece types) at
     pub is_key : IsOf key_piece key
-    pub is : IsOf (a_value key_piece types) m
+    pub is : IsOf (a_value around key_piece types) m
 
   -- an entry of the group in the brackets that are the ends of the other part of the text
   pub record IsEntryWithin (around : Spot) (alternative place : ℕ) (at : Spot) : Type 0 where
-    pub opening : Token
-    pub closing : Token
+    pub round : Around
     pub inner : Inner
-    pub stands : Stands (an_entry (brackets opening closing) alternative place inner) at
+    pub stands : Stands (an_entry round alternative place inner) at
     pub rule : at.rule ≡ around.rule
-    pub opens : around.span.first ≡ opening.start
-    pub closes : around.span.end ≡ closing.end
+    pub ends : AreEnds around round
 
   -- The rules of a name make so many alternatives.
   pub data Make (n : Text) : List S.Rule → ℕ → Type 0 where

@@ -77,18 +77,25 @@ pub record IsTypeIn (x : Sources) (n : ℕ) (from : Option PieceAt) (m : Link) (
   pub is : IsOfOrigin x origin a
   pub inside : IsFrom x n from a
 
+-- the same of a value in an entry of a map: what was found before is the map
+abbrev pub IsValueFrom : Sources → ℕ → Option PieceAt → PieceAt → Type 0
+IsValueFrom x n None a = HasNumber x a.rule n
+IsValueFrom x n (Some o) a = (a.rule ≡ o.rule) × (a.around ≡ Some o.span)
+
 -- it is of the second type, the value of an entry whose key is of the first
 pub record IsValueIn (x : Sources) (n : ℕ) (from : Option PieceAt) (key m : Link) (a : PieceAt) : Type 0 where
+  pub key_origin : TypeOrigin
+  pub key_there : origin_at x key ≡ Some key_origin
+  pub same : a.key ≡ Some key_origin
   pub origin : TypeOrigin
-  pub there : origin_at x key ≡ Some origin
-  pub same : a.key ≡ Some origin
-  pub is : IsTypeIn x n from m a
+  pub there : origin_at x m ≡ Some origin
+  pub is : IsOfOrigin x origin a
+  pub inside : IsValueFrom x n from a
 
--- the entry has this round its group, and so many alternatives and entries after it
-pub record IsPlacedIn (around : Option Span) (alternative place : ℕ) (e : Option EntryAt) : Type 0 where
+-- the entry has so many alternatives and entries after it
+pub record IsPlacedIn (alternative place : ℕ) (e : Option EntryAt) : Type 0 where
   pub entry : EntryAt
   pub there : e ≡ Some entry
-  pub round : entry.around ≡ around
   pub same_alternative : entry.alternative ≡ alternative
   pub same_place : entry.place ≡ place
 
@@ -96,7 +103,8 @@ pub record IsPlacedIn (around : Option Span) (alternative place : ℕ) (e : Opti
 pub record IsEntryThere (x : Sources) (i : ℕ) (around : Option Span) (alternative place : ℕ) (a : PieceAt) : Type 0 where
   pub contained : Contains x.pieces.items a
   pub rule : a.rule ≡ i
-  pub is : IsPlacedIn around alternative place a.entry
+  pub round : a.around ≡ around
+  pub is : IsPlacedIn alternative place a.entry
 
 -- it is an entry of the group in the brackets that are the ends of the other
 abbrev pub IsEntryWithin : Sources → PieceAt → (alternative place : ℕ) → PieceAt → Type 0

@@ -32,7 +32,7 @@ view_node read (NodeV.Operation t) = a_type (S.only (view_type1 read t.now))
 view_node read (NodeV.Operand t) = operand (view_type2 read t.now)
 view_node read (NodeV.Literal v) = operand (S.literal (view_value read v))
 view_node read (NodeV.Word l) = a_word (read l)
-view_node read (NodeV.Value k t) = a_value (key_piece (view_key read k.now)) (view_types read t.now)
+view_node read (NodeV.Value a k t) = a_value (view_around read a) (key_piece (view_key read k.now)) (view_types read t.now)
 view_node read (NodeV.Entry e) = an_entry (view_around read e.around) e.alternative e.place (view_inner read e.inner)
 
 -- with the place of its rule
@@ -43,16 +43,16 @@ view_found read f = (f.rule, view_node read f.node)
 pub record Adds (old new : List Found) (rule : ℕ) (added : (Leaf → Token) → List Piece) : Type 0 where
   pub each : (read : Leaf → Token) → map (view_found read) new ≡ map (view_found read) old ++ placed rule (added read)
 
--- those of a further type of a list, of an entry of a group, and of a further choice
+-- those of a further type of a list, and of an entry of a group and of a further choice with this round it
 
 abbrev pub further_pieces : (Leaf → Token) → Further → List Piece
 further_pieces read x = in_type1 (view_type1 read x.type1)
 
-abbrev pub entry_pieces : (Leaf → Token) → Entry → List Piece
-entry_pieces read e = in_entry (view_grpent read e.grpent)
+abbrev pub entry_pieces : AroundNode → (Leaf → Token) → Entry → List Piece
+entry_pieces a read e = in_entry (view_around read a) (view_grpent read e.grpent)
 
-abbrev pub choice_pieces : (Leaf → Token) → GrpChoice → List Piece
-choice_pieces read c = flat_map (entry_pieces read) (out-GrpChoice c).entries.items
+abbrev pub choice_pieces : AroundNode → (Leaf → Token) → GrpChoice → List Piece
+choice_pieces a read c = flat_map (entry_pieces a read) (out-GrpChoice c).entries.items
 
 -- The entries of a list that are left, and of further choices that are left, with what comes after each in its list.
 

@@ -1,6 +1,7 @@
 //! Where the types of a table stand in the text of its specification: the rule, and the offsets of the type in it.
 #![tactic(auto)]
 
+mod bare;
 mod copies;
 mod entries;
 mod names;

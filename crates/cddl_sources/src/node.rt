@@ -49,8 +49,8 @@ pub(crate) enum Node<'t> {
     Literal(Value),
     /// A bareword that is a key.
     Word(Leaf),
-    /// The type of the value in an entry that has this key.
-    Value(&'t MemberKey, &'t Types),
+    /// The type of the value in an entry that has this key, with what is round the map's group.
+    Value(AroundNode, &'t MemberKey, &'t Types),
     /// An entry of an array, of a group in parentheses, or of a rule as a group.
     Entry(EntryNode<'t>),
 }

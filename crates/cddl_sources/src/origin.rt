@@ -6,8 +6,10 @@ ghost use Rattle.cddl_language.specs.Reading.{literal_of, term_of, term_of1, tex
 ghost use Rattle.cddl_language.specs.Terms.{Term, typed};
 ghost use Rattle.check_terms.specs.Table.{Grows, Holds, node, nothing};
 ghost use Rattle.check_terms.specs.Trees.{IsEntry, IsTerm, literal_tree};
+ghost use Rattle.cddl_token.specs.declared.Token.{Token};
 ghost use Rattle.tree_nodes.specs.View.{token_of, view_type1, view_types, view_value};
-ghost use Rattle.cddl_sources.specs.Origins.{AreRead, AreRound, IsKeyOf, IsNumberOf, MayBeIn, MayBeOf};
+ghost use Rattle.tree_nodes.specs.declared.tree.Leaf.{Leaf as ALeaf};
+ghost use Rattle.cddl_sources.specs.Origins.{AreRead, AreRound, AreRoundIt, IsKeyOf, IsNumberOf, MayBeIn, MayBeOf};
 ghost use Rattle.cddl_sources.specs.Pieces.{name_there};
 ghost use Rattle.cddl_sources.specs.Walk.{view_around, view_node};
 
@@ -43,7 +45,8 @@ pub(crate) fn pieces_of<'s>(
             rule: node.rule,
             origin,
             key,
-            entry: entry_at(tree, node.node),
+            around: around_at(tree, node.node),
+            entry: entry_at(node.node),
             name,
             span: node_span(tree, node.node),
         };
@@ -71,7 +74,7 @@ fn key_origin<'s>(
     ensures key { IfOk result (λ o. IsKeyOf terms.new (view_node (token_of tree.now) node.entry) o) }
 {
     match node {
-        Node::Value(key, _) => node_origin(terms, tree, key_node(key)),
+        Node::Value(_, key, _) => node_origin(terms, tree, key_node(key)),
         Node::Choice(_) => Ok(None),
         Node::Operation(_) => Ok(None),
         Node::Operand(_) => Ok(None),
@@ -82,12 +85,11 @@ fn key_origin<'s>(
 }
 
 // Where an entry stands in its group.
-fn entry_at(tree: &Tree<'_>, node: Node<'_>) -> Option<EntryAt>
-    ensures { MayBeIn (view_node (token_of tree.now) node.entry) result }
+fn entry_at(node: Node<'_>) -> Option<EntryAt>
+    ensures { (read : ALeaf → Token) → MayBeIn (view_node read node.entry) result }
 {
     match node {
         Node::Entry(entry) => Some(EntryAt {
-            around: around_span(tree, entry.around),
             alternative: entry.alternative,
             place: entry.place,
         }),
@@ -96,7 +98,22 @@ fn entry_at(tree: &Tree<'_>, node: Node<'_>) -> Option<EntryAt>
         Node::Operand(_) => None,
         Node::Literal(_) => None,
         Node::Word(_) => None,
-        Node::Value(_, _) => None,
+        Node::Value(_, _, _) => None,
+    }
+}
+
+// What is round the group of an entry, or the map's group in which a value is.
+fn around_at(tree: &Tree<'_>, node: Node<'_>) -> Option<Span>
+    ensures { AreRoundIt (view_node (token_of tree.now) node.entry) result }
+{
+    match node {
+        Node::Entry(entry) => around_span(tree, entry.around),
+        Node::Value(around, _, _) => around_span(tree, around),
+        Node::Choice(_) => None,
+        Node::Operation(_) => None,
+        Node::Operand(_) => None,
+        Node::Literal(_) => None,
+        Node::Word(_) => None,
     }
 }
 
@@ -149,7 +166,7 @@ fn node_origin<'s>(
         Node::Operand(type2) => Ok(Some(TypeOrigin::Row(read_operand(terms, tree, type2)?))),
         Node::Literal(value) => Ok(Some(TypeOrigin::Row(read_literal(terms, tree, value)?))),
         Node::Word(leaf) => Ok(Some(TypeOrigin::Word(terms.add_text(text_at(tree, leaf))?))),
-        Node::Value(_, types) => Ok(Some(TypeOrigin::Row(read_types(terms, tree, types)?))),
+        Node::Value(_, _, types) => Ok(Some(TypeOrigin::Row(read_types(terms, tree, types)?))),
         Node::Entry(_) => Ok(None),
     }
 }

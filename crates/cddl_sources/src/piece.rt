@@ -3,11 +3,9 @@
 use crate::span::Span;
 use table_making::TypeOrigin;
 
-// Where an entry of a group stands.
+// Where an entry stands in its group.
 #[derive(Clone, Copy)]
 pub(crate) struct EntryAt {
-    // The group, from its opening to its closing bracket; nothing where it is the body of a rule.
-    pub(crate) around: Option<Span>,
     // So many alternatives come after its own.
     pub(crate) alternative: usize,
     // So many entries come after it in its alternative.
@@ -23,6 +21,9 @@ pub(crate) struct PieceAt {
     pub(crate) origin: Option<TypeOrigin>,
     // What its key is of, where it is the type of the value in an entry.
     pub(crate) key: Option<TypeOrigin>,
+    // The group of which it is an entry, or the map's group in which it is a value, from its opening to its closing bracket;
+    // nothing where that is the body of a rule.
+    pub(crate) around: Option<Span>,
     // Where it stands in its group, where it is an entry.
     pub(crate) entry: Option<EntryAt>,
     // The number of the name that it is, where it is an entry and one name alone.

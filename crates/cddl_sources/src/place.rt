@@ -8,7 +8,7 @@ ghost use Rattle.table_nodes.specs.declared.table.Table.{Table};
 ghost use Rattle.type_links.specs.declared.link.Link.{Link as ALink};
 ghost use Rattle.cddl_sources.specs.Places.{IsOfNoRule, IsPlace};
 ghost use Rattle.cddl_sources.specs.Sources.{AreSources};
-ghost use Rattle.cddl_sources.specs.States.{AreNoPairIn, ArePairIn, HasNoRule, HasNumber, IsAlternative, IsEntryNamed, IsEntryOf, IsEntryThere, IsFoundAfter, IsFrom, IsInside, IsOfOrigin, IsPlacedIn, IsRuleIn, IsStarted, IsStateAfter, IsStateOf, IsTold, IsTypeIn, IsValueIn, LeadsIn, count_in, number_at, origin_at};
+ghost use Rattle.cddl_sources.specs.States.{AreNoPairIn, ArePairIn, HasNoRule, HasNumber, IsAlternative, IsEntryNamed, IsEntryOf, IsEntryThere, IsFoundAfter, IsFrom, IsInside, IsOfOrigin, IsPlacedIn, IsRuleIn, IsStarted, IsStateAfter, IsStateOf, IsTold, IsTypeIn, IsValueFrom, IsValueIn, LeadsIn, count_in, number_at, origin_at};
 ghost use Rattle.cddl_sources.specs.declared.piece.PieceAt.{PieceAt as Piece};
 
 use crate::piece::{EntryAt, PieceAt};
@@ -22,8 +22,9 @@ use type_links::Link;
 pub struct Place {
     /// The name of the rule, where it is defined: what stands between the offsets is the name.
     pub name: Span,
-    /// The type. Where none of the types that led to it stands in the rule as it is written there, it is all that the rule has
-    /// after its sign: so in an instance of a generic rule, where an argument is in the place of a parameter.
+    /// The type, without parentheses round all of it. Where none of the types that led to it stands in the rule as it is written
+    /// there, it is all that the rule has after its sign: so in an instance of a generic rule, where an argument is in the place of
+    /// a parameter.
     pub types: Span,
 }
 
@@ -58,9 +59,10 @@ impl Sources {
     /// The rule is the one of which the last is an instance that is an instance of a rule of the text, so a name of the prelude
     /// stands where it is asked for. From there on each type narrows it: to the first place in the rules of that name that is of
     /// this type, within the place of the one found before. Where the key of an entry comes right before the type of its value, it
-    /// is that entry's. An alternative of a group and an entry of it lead to this entry, where the place found before is that of the
-    /// array or of the parentheses round the group, or is a name that is an entry by itself: then it stands in the rules of that
-    /// name. Nothing is told where none is an instance of a rule of the text.
+    /// is that entry's, in the map whose place was found before, and not of one within it. An alternative of a group and an entry
+    /// of it lead to this entry, where the place found before is that of the array or of the parentheses round the group, or is a
+    /// name that is an entry by itself: then it stands in the rules of that name. Nothing is told where none is an instance of a
+    /// rule of the text.
     ///
     /// It takes time in proportion to the types and the entries in the text for each of these.
     pub fn place(&self, chain: &[Link]) -> Option<Place>
@@ -366,11 +368,11 @@ impl Sources {
         key: TypeOrigin,
         origin: TypeOrigin,
     ) -> Option<PieceAt>
-        ensures some { IfSome result (λ a. IsOfOrigin self.now origin a × IsFrom self.now number found a × (a.key ≡ Some key)) }
-        ensures none { IfNone result ((a : Piece) → IsOfOrigin self.now origin a → IsFrom self.now number found a → a.key ≡ Some key → ⊥) }
+        ensures some { IfSome result (λ a. IsOfOrigin self.now origin a × IsValueFrom self.now number found a × (a.key ≡ Some key)) }
+        ensures none { IfNone result ((a : Piece) → IsOfOrigin self.now origin a → IsValueFrom self.now number found a → a.key ≡ Some key → ⊥) }
     {
         for piece in &self.pieces {
-            if self.is_next(*piece, number, found, origin) && has_key(*piece, key) {
+            if is_value(*piece, key, origin) && self.is_value_from(*piece, number, found) {
                 return Some(*piece);
             }
         }
@@ -418,6 +420,16 @@ impl Sources {
         }
     }
 
+    // Whether the value is in an entry of the map that was found before, or in a rule with this number.
+    fn is_value_from(&self, piece: PieceAt, number: u32, found: Option<PieceAt>) -> bool
+        ensures is { IsTrue result ↔ IsValueFrom self.now number found piece }
+    {
+        match found {
+            Some(map) => is_in_map(map, piece),
+            None => self.is_named(piece.rule, number),
+        }
+    }
+
     // Whether the rule at this place has this number.
     fn is_named(&self, rule: usize, number: u32) -> bool
         ensures { IsTrue result ↔ HasNumber self.now rule number }
@@ -438,6 +450,20 @@ fn is_inside(outer: PieceAt, piece: PieceAt) -> bool
         && piece.span.end <= outer.span.end
 }
 
+// Whether the value is in an entry of the map.
+fn is_in_map(map: PieceAt, piece: PieceAt) -> bool
+    ensures { IsTrue result ↔ ((piece.rule ≡ map.rule) × (piece.around ≡ Some map.span)) }
+{
+    piece.rule == map.rule && is_round(piece, Some(map.span))
+}
+
+// Whether the piece has this round its group.
+fn is_round(piece: PieceAt, around: Option<Span>) -> bool
+    ensures { IsTrue result ↔ (piece.around ≡ around) }
+{
+    piece.around == around
+}
+
 // Whether it is of this.
 fn is_of(piece: PieceAt, origin: TypeOrigin) -> bool
     ensures { IsTrue result ↔ (piece.origin ≡ Some origin) }
@@ -456,21 +482,28 @@ fn is_there(
     alternative: usize,
     place: usize,
 ) -> bool
-    ensures { IsTrue result ↔ ((piece.rule ≡ rule) × IsPlacedIn around alternative place piece.entry) }
+    ensures { IsTrue result ↔ ((piece.rule ≡ rule) × (piece.around ≡ around) × IsPlacedIn alternative place piece.entry) }
 {
-    piece.rule == rule && is_placed(piece.entry, around, alternative, place)
+    piece.rule == rule
+        && is_round(piece, around)
+        && is_placed(piece.entry, alternative, place)
 }
 
-// Whether it is an entry with this round its group, and with so many alternatives and so many entries after it.
-fn is_placed(entry: Option<EntryAt>, around: Option<Span>, alternative: usize, place: usize) -> bool
-    ensures { IsTrue result ↔ IsPlacedIn around alternative place entry }
+// Whether it is an entry with so many alternatives and so many entries after it.
+fn is_placed(entry: Option<EntryAt>, alternative: usize, place: usize) -> bool
+    ensures { IsTrue result ↔ IsPlacedIn alternative place entry }
 {
     match entry {
-        Some(entry) => {
-            entry.around == around && entry.alternative == alternative && entry.place == place
-        }
+        Some(entry) => entry.alternative == alternative && entry.place == place,
         None => false,
     }
+}
+
+// Whether it is of this as a value, in an entry whose key is of the other.
+fn is_value(piece: PieceAt, key: TypeOrigin, origin: TypeOrigin) -> bool
+    ensures { IsTrue result ↔ ((piece.origin ≡ Some origin) × (piece.key ≡ Some key)) }
+{
+    is_of(piece, origin) && has_key(piece, key)
 }
 
 // Whether it is the type of the value in an entry whose key is of this.

@@ -6,7 +6,7 @@ ghost use Rattle.tree_nodes.specs.View.{view_key, view_type1, view_type2, view_t
 ghost use Rattle.cddl_sources.specs.Pieces.{a_type, a_value, a_word, an_entry, key_piece, operand};
 ghost use Rattle.cddl_sources.specs.Walk.{Adds, view_around, view_inner, view_node};
 
-use crate::node::{EntryNode, Found, Node};
+use crate::node::{AroundNode, EntryNode, Found, Node};
 use std::alloc::AllocError;
 use tree_nodes::{Leaf, MemberKey, Type1, Type2, Types, Value};
 
@@ -61,14 +61,15 @@ pub(crate) fn push_word(
 }
 
 pub(crate) fn push_value<'t>(
+    around: AroundNode,
     key: &'t MemberKey,
     types: &'t Types,
     rule: usize,
     found: &mut Vec<Found<'t>>,
 ) -> Result<(), AllocError>
-    ensures { OnOk result (Adds found.old.items found.new.items rule (λ read. a_value (key_piece (view_key read key.now)) (view_types read types.now) ∷ [])) }
+    ensures { OnOk result (Adds found.old.items found.new.items rule (λ read. a_value (view_around read around) (key_piece (view_key read key.now)) (view_types read types.now) ∷ [])) }
 {
-    push(Node::Value(key, types), rule, found)
+    push(Node::Value(around, key, types), rule, found)
 }
 
 pub(crate) fn push_entry<'t>(

@@ -6,10 +6,11 @@ ghost use Rattle.cddl_token.specs.declared.Kind.TheVariants.{Name};
 ghost use Rattle.tree_nodes.specs.Syntax.Syntax as S;
 ghost use Rattle.tree_nodes.specs.View.{token_of, view_grpent, view_name, view_ref, view_rule, view_type1, view_type2, view_types, view_value};
 ghost use Rattle.tree_nodes.specs.declared.tree.Tree.{Tree as TreeOf};
-ghost use Rattle.cddl_sources.specs.Pieces.{tokens_of_inner, tokens_of_piece};
+ghost use Rattle.cddl_sources.specs.Pieces.{bare_type1, bare_type2, bare_types, tokens_of_inner, tokens_of_piece};
 ghost use Rattle.cddl_sources.specs.Spans.{EndsAt, IsNameSpan, IsSpan, body_tokens};
 ghost use Rattle.cddl_sources.specs.Walk.{view_inner, view_node};
 
+use crate::bare::{bare_types, type1_inside, type2_inside};
 use crate::node::{InnerNode, Node};
 use check_terms::opened_name;
 use tree_nodes::{GrpEnt, Leaf, Ref, Rule, RuleName, Tree, Type1, Type2, Types, Value};
@@ -28,22 +29,48 @@ pub(crate) fn node_span(tree: &Tree<'_>, node: Node<'_>) -> Span
     ensures { IsSpan (tokens_of_piece (view_node (token_of tree.now) node.entry)) result }
 {
     match node {
-        Node::Choice(types) => types_span(tree, types),
-        Node::Operation(type1) => Span {
-            first: type1.start(tree),
-            end: type1_end(tree, type1),
-        },
-        Node::Operand(type2) => Span {
-            first: type2.start(tree),
-            end: type2_end(tree, type2),
-        },
+        Node::Choice(types) => bare_span(tree, types),
+        Node::Operation(type1) => type1_span(tree, type1),
+        Node::Operand(type2) => type2_span(tree, type2),
         Node::Literal(value) => Span {
             first: value.start(tree),
             end: value_end(tree, &value),
         },
         Node::Word(leaf) => word_span(tree, leaf),
-        Node::Value(_, types) => types_span(tree, types),
+        Node::Value(_, _, types) => bare_span(tree, types),
         Node::Entry(node) => inner_span(tree, node.inner),
+    }
+}
+
+// Where a type of each kind stands, without the parentheses round all of it.
+
+fn bare_span(tree: &Tree<'_>, types: &Types) -> Span
+    ensures { IsSpan (S.flat_types (bare_types (view_types (token_of tree.now) types.now))) result }
+{
+    types_span(tree, bare_types(types))
+}
+
+fn type1_span(tree: &Tree<'_>, type1: &Type1) -> Span
+    ensures { IsSpan (S.flat_types (bare_type1 (view_type1 (token_of tree.now) type1.now))) result }
+{
+    match type1_inside(type1) {
+        Some(types) => types_span(tree, types),
+        None => Span {
+            first: type1.start(tree),
+            end: type1_end(tree, type1),
+        },
+    }
+}
+
+fn type2_span(tree: &Tree<'_>, type2: &Type2) -> Span
+    ensures { IsSpan (S.flat_types (bare_type2 (view_type2 (token_of tree.now) type2.now))) result }
+{
+    match type2_inside(type2) {
+        Some(types) => types_span(tree, types),
+        None => Span {
+            first: type2.start(tree),
+            end: type2_end(tree, type2),
+        },
     }
 }
 
@@ -52,7 +79,7 @@ fn inner_span(tree: &Tree<'_>, inner: InnerNode<'_>) -> Span
     ensures { IsSpan (tokens_of_inner (view_inner (token_of tree.now) inner.entry)) result }
 {
     match inner {
-        InnerNode::Types(types) => types_span(tree, types),
+        InnerNode::Types(types) => bare_span(tree, types),
         InnerNode::Group(opening, _, closing) => brackets_span(tree, opening, closing),
     }
 }

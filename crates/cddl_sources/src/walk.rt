@@ -5,16 +5,15 @@ ghost use Rattle.std.specs.Prelude.{◌≡◌, ◌++◌, IfOk, OnOk, map};
 ghost use Rattle.std.specs.List.{flat_map};
 ghost use Rattle.cddl_language.specs.Reading.{rules_of};
 ghost use Rattle.tree_nodes.specs.View.{token_of, view, view_arg, view_group, view_grpent, view_key, view_ref, view_rule, view_type1, view_type2, view_types};
-ghost use Rattle.cddl_sources.specs.Pieces.{brackets, entries_in, in_arguments, in_entry, in_group, in_key, in_ref, in_rule, in_type1, in_type2, in_types, rule_by_rule};
-ghost use Rattle.cddl_sources.specs.Walk.{Adds, entry_pieces, further_pieces, view_found};
+ghost use Rattle.cddl_sources.specs.Pieces.{entries_in, in_arguments, in_entry, in_group, in_key, in_ref, in_rule, in_type1, in_type2, in_types, rule_by_rule};
+ghost use Rattle.cddl_sources.specs.Walk.{Adds, entry_pieces, further_pieces, view_around, view_found};
 
 use crate::entries::{add_body, add_entries_of, add_lone};
 use crate::node::{AroundNode, Found, InnerNode};
 use crate::push::{push_choice, push_literal, push_operand, push_operation, push_value, push_word};
 use std::alloc::{AllocError, Global};
 use tree_nodes::{
-    Entry, Further, GenericArg, Group, GrpEnt, Leaf, MemberKey, Ref, Rule, Tree, Type1, Type2,
-    Types,
+    Entry, Further, GenericArg, Group, GrpEnt, MemberKey, Ref, Rule, Tree, Type1, Type2, Types,
 };
 
 // All types of a specification's text and the words that are keys there, rule by rule in the order of the text.
@@ -41,7 +40,7 @@ fn add_rule<'t>(node: &'t Rule, rule: usize, found: &mut Vec<Found<'t>>) -> Resu
         }
         Rule::GroupRule { grpent, .. } => {
             add_body(grpent, rule, found)?;
-            add_grpent(grpent, rule, found)
+            add_grpent(AroundNode::Rule, grpent, rule, found)
         }
     }
 }
@@ -106,14 +105,26 @@ fn add_type2<'t>(
         Type2::Literal(_) => Ok(()),
         Type2::Typename(name) => add_ref(name, rule, found),
         Type2::Parens { types, .. } => add_types(types, rule, found),
-        Type2::MapOf { group, .. } => add_group(group, rule, found),
+        Type2::MapOf {
+            opening,
+            group,
+            closing,
+        } => add_group(AroundNode::Brackets(*opening, *closing), group, rule, found),
         Type2::ArrayOf {
             opening,
             group,
             closing,
-        } => add_bracketed(*opening, group, *closing, rule, found),
+        } => {
+            let own = AroundNode::Brackets(*opening, *closing);
+            add_bracketed(own, own, group, rule, found)
+        }
         Type2::Unwrapped { name, .. } => add_ref(name, rule, found),
-        Type2::ChoiceOf { group, .. } => add_group(group, rule, found),
+        Type2::ChoiceOf {
+            opening,
+            group,
+            closing,
+            ..
+        } => add_group(AroundNode::Brackets(*opening, *closing), group, rule, found),
         Type2::ChoiceOfName { name, .. } => add_ref(name, rule, found),
         Type2::Tagged { types, .. } => add_types(types, rule, found),
         Type2::TaggedBy { head, types, .. } => {
@@ -149,64 +160,69 @@ fn add_arguments<'t>(
     add_further(others, rule, found)
 }
 
-// The entries of a group in brackets, and then what is in each of them.
+// The entries of a group in its own brackets, and then what is in each of them.
 #[cycle(walk)]
 fn add_bracketed<'t>(
-    opening: Leaf,
+    own: AroundNode,
+    around: AroundNode,
     group: &'t Group,
-    closing: Leaf,
     rule: usize,
     found: &mut Vec<Found<'t>>,
 ) -> Result<(), AllocError>
-    ensures { OnOk result (Adds found.old.items found.new.items rule (λ read. entries_in (brackets (read opening) (read closing)) 0 (view_group read group.now) ++ in_group (view_group read group.now))) }
+    ensures { OnOk result (Adds found.old.items found.new.items rule (λ read. entries_in (view_around read own) 0 (view_group read group.now) ++ in_group (view_around read around) (view_group read group.now))) }
 {
-    add_entries_of(AroundNode::Brackets(opening, closing), group, rule, found)?;
-    add_group(group, rule, found)
+    add_entries_of(own, group, rule, found)?;
+    add_group(around, group, rule, found)
 }
 
+// What is in a group with this round it.
 #[cycle(walk)]
 fn add_group<'t>(
+    around: AroundNode,
     group: &'t Group,
     rule: usize,
     found: &mut Vec<Found<'t>>,
 ) -> Result<(), AllocError>
-    ensures { OnOk result (Adds found.old.items found.new.items rule (λ read. in_group (view_group read group.now))) }
+    ensures { OnOk result (Adds found.old.items found.new.items rule (λ read. in_group (view_around read around) (view_group read group.now))) }
 {
     let Group { first, others } = group;
-    add_entries(first, rule, found)?;
+    add_entries(around, first, rule, found)?;
     for choice in others {
-        add_entries(&choice.entries, rule, found)?;
+        add_entries(around, &choice.entries, rule, found)?;
     }
     Ok(())
 }
 
 #[cycle(walk)]
 fn add_entries<'t>(
+    around: AroundNode,
     entries: &'t Vec<Entry>,
     rule: usize,
     found: &mut Vec<Found<'t>>,
 ) -> Result<(), AllocError>
-    ensures { OnOk result (Adds found.old.items found.new.items rule (λ read. flat_map (entry_pieces read) entries.now.items)) }
+    ensures { OnOk result (Adds found.old.items found.new.items rule (λ read. flat_map (entry_pieces around read) entries.now.items)) }
 {
     for entry in entries {
-        add_grpent(&entry.grpent, rule, found)?;
+        add_grpent(around, &entry.grpent, rule, found)?;
     }
     Ok(())
 }
 
+// What is in an entry of a group with this round it, also where the entry is a group in parentheses itself.
 #[cycle(walk)]
 fn add_grpent<'t>(
+    around: AroundNode,
     grpent: &'t GrpEnt,
     rule: usize,
     found: &mut Vec<Found<'t>>,
 ) -> Result<(), AllocError>
-    ensures { OnOk result (Adds found.old.items found.new.items rule (λ read. in_entry (view_grpent read grpent.now))) }
+    ensures { OnOk result (Adds found.old.items found.new.items rule (λ read. in_entry (view_around read around) (view_grpent read grpent.now))) }
 {
     match grpent {
         GrpEnt::Typed { types, .. } => add_types(types, rule, found),
         GrpEnt::Keyed { key, types, .. } => {
             add_key(key, rule, found)?;
-            push_value(key, types, rule, found)?;
+            push_value(around, key, types, rule, found)?;
             add_types(types, rule, found)
         }
         GrpEnt::Grouped {
@@ -214,7 +230,10 @@ fn add_grpent<'t>(
             group,
             closing,
             ..
-        } => add_bracketed(*opening, group, *closing, rule, found),
+        } => {
+            let own = AroundNode::Brackets(*opening, *closing);
+            add_bracketed(own, around, group, rule, found)
+        }
     }
 }
 

@@ -2,12 +2,12 @@ use Rattle.std.proofs.Common.{◌≡◌, IfOk, sym, subst}
 use Rattle.tree_nodes.specs.View.{token_of, view_key, view_types}
 use Rattle.cddl_sources.specs.Origins.{IsKeyOf, MayBeOf}
 use Rattle.cddl_sources.specs.Pieces.{Piece, a_value, key_piece}
-use Rattle.cddl_sources.specs.Walk.{view_node}
+use Rattle.cddl_sources.specs.Walk.{view_around, view_node}
 use Rattle.cddl_sources.proofs.origin.key_origin.Goals as goal
 
 pub returns-in-Value-clause-key : goal.returns-in-Value-clause-key
 returns-in-Value-clause-key c =
     let read = token_of c.args.tree.now in
-    let e : view_node read c.args.node ≡ a_value (key_piece (view_key read c.in-Value.key.now)) (view_types read c.in-Value.field-1.now) = simp c.in-Value.is in
+    let e : view_node read c.args.node ≡ a_value (view_around read c.in-Value.field-0) (key_piece (view_key read c.in-Value.key.now)) (view_types read c.in-Value.field-2.now) = simp c.in-Value.is in
     let origin = subst (λ (p : Piece). IfOk c.node_origin.result (λ o. MayBeOf c.node_origin.new.terms p o)) (c.key_node.ensures read) c.node_origin.ensures.origin in
     subst (λ (p : Piece). IfOk c.node_origin.result (λ o. IsKeyOf c.node_origin.new.terms p o)) (sym e) origin

@@ -40,7 +40,7 @@ returns-in_ok-add_text-in-Word-clause-origin c =
 pub returns-in_ok-read_types-in-Value-clause-origin : goal.returns-in_ok-read_types-in-Value-clause-origin
 returns-in_ok-read_types-in-Value-clause-origin c =
     let read = token_of c.args.tree.now in
-    let e : view_node read c.args.node ≡ a_value (key_piece (view_key read c.in-Value.field-0.now)) (view_types read c.in-Value.types.now) = simp c.in-Value.is in
+    let e : view_node read c.args.node ≡ a_value (view_around read c.in-Value.field-0) (key_piece (view_key read c.in-Value.field-1.now)) (view_types read c.in-Value.types.now) = simp c.in-Value.is in
     subst (λ (p : Piece). MayBeOf c.read_types-in-Value.new.terms p (Some (T.Row c.in_ok-read_types-in-Value.field-0))) (sym e) (is_of (of_value c.in_ok-read_types-in-Value.ensures.term))
 
 pub returns-in-Entry-clause-origin : goal.returns-in-Entry-clause-origin

@@ -6,7 +6,7 @@ use Rattle.cddl_sources.proofs.Ending.{alone, behind}
 use Rattle.cddl_sources.proofs.span.inner_span.Goals as goal
 
 pub returns-in-Types : goal.returns-in-Types
-returns-in-Types c = simp c.in-Types.is c.types_span.ensures
+returns-in-Types c = simp c.in-Types.is c.bare_span.ensures
 
 pub returns-in-Group : goal.returns-in-Group
 returns-in-Group c =

@@ -1,7 +1,7 @@
 use Rattle.tree_nodes.specs.declared.tree.Entry.{Entry}
 use Rattle.tree_nodes.specs.declared.tree.Further.{Further}
 use Rattle.tree_nodes.specs.declared.tree.GrpChoice.{GrpChoice}
-use Rattle.cddl_sources.specs.Walk.{entry_pieces, further_pieces, choice_pieces}
+use Rattle.cddl_sources.specs.Walk.{entry_pieces, further_pieces, choice_pieces, view_around}
 use Rattle.cddl_sources.proofs.Adding.{on_ok, adds_as, adds_both, continues_next, continues_last}
 use Rattle.cddl_sources.proofs.Nodes.{types_pieces, argument_pieces, group_pieces, one_pieces, operation_pieces, literal_pieces, typename_pieces, parens_pieces, map_pieces, array_pieces, unwrapped_pieces, choice_of_pieces, choice_of_name_pieces, tagged_pieces, tagged_by_pieces, simple_by_pieces, hash_pieces, applied_pieces, name_pieces, typed_pieces, keyed_pieces, grouped_pieces, type_key_pieces, bareword_pieces, value_key_pieces}
 use Rattle.cddl_sources.proofs.Adding.{adds_none}
@@ -90,31 +90,31 @@ add_bracketed-returns t c =
 
 pub add_group-loop-choice-preserved : goal.add_group-loop-choice-preserved
 add_group-loop-choice-preserved t c =
-    continues_next GrpChoice choice_pieces _ _ _ _ _ _ c.choice-item.result c.loop-choice-test.true c.choice-item.is c.in_ok-add_entries-2.ensures c.loop-choice.invariant
+    continues_next GrpChoice (choice_pieces c.args.around) _ _ _ _ _ _ c.choice-item.result c.loop-choice-test.true c.choice-item.is c.in_ok-add_entries-2.ensures c.loop-choice.invariant
 
 pub add_group-returns : goal.add_group-returns
 add_group-returns t c =
-    adds_as _ (λ read. group_pieces read c.args.group.now) (adds_both c.in_ok-add_entries.ensures (continues_last GrpChoice choice_pieces _ _ _ _ _ _ c.loop-choice-test.false c.deref-choice-items.ensures.value c.loop-choice.invariant))
+    adds_as _ (λ read. group_pieces read c.args.around c.args.group.now) (adds_both c.in_ok-add_entries.ensures (continues_last GrpChoice (choice_pieces c.args.around) _ _ _ _ _ _ c.loop-choice-test.false c.deref-choice-items.ensures.value c.loop-choice.invariant))
 
 pub add_entries-loop-entry-preserved : goal.add_entries-loop-entry-preserved
 add_entries-loop-entry-preserved t c =
-    continues_next Entry entry_pieces _ _ _ _ _ _ c.entry-item.result c.loop-entry-test.true c.entry-item.is c.in_ok-add_grpent.ensures c.loop-entry.invariant
+    continues_next Entry (entry_pieces c.args.around) _ _ _ _ _ _ c.entry-item.result c.loop-entry-test.true c.entry-item.is c.in_ok-add_grpent.ensures c.loop-entry.invariant
 
 pub add_entries-returns : goal.add_entries-returns
 add_entries-returns t c =
-    continues_last Entry entry_pieces _ _ _ _ _ _ c.loop-entry-test.false c.deref-entry-items.ensures.value c.loop-entry.invariant
+    continues_last Entry (entry_pieces c.args.around) _ _ _ _ _ _ c.loop-entry-test.false c.deref-entry-items.ensures.value c.loop-entry.invariant
 
 pub add_grpent-returns-in-Typed : goal.add_grpent-returns-in-Typed
 add_grpent-returns-in-Typed t c =
-    on_ok c.add_types.result _ _ (adds_as _ (λ read. typed_pieces read _ c.in-Typed.occur c.in-Typed.types c.in-Typed.is)) c.add_types.ensures
+    on_ok c.add_types.result _ _ (adds_as _ (λ read. typed_pieces read (view_around read c.args.around) _ c.in-Typed.occur c.in-Typed.types c.in-Typed.is)) c.add_types.ensures
 
 pub add_grpent-returns-in_ok-push_value-in-Keyed : goal.add_grpent-returns-in_ok-push_value-in-Keyed
 add_grpent-returns-in_ok-push_value-in-Keyed t c =
-    on_ok c.add_types-in-Keyed.result _ _ (λ h. adds_as _ (λ read. keyed_pieces read _ c.in-Keyed.occur c.in-Keyed.key c.in-Keyed.types _ _ c.in-Keyed.is c.deref.ensures c.deref-in-Keyed.ensures) (adds_both c.in_ok-add_key-in-Keyed.ensures (adds_both c.in_ok-push_value-in-Keyed.ensures h))) c.add_types-in-Keyed.ensures
+    on_ok c.add_types-in-Keyed.result _ _ (λ h. adds_as _ (λ read. keyed_pieces read (view_around read c.args.around) _ c.in-Keyed.occur c.in-Keyed.key c.in-Keyed.types _ _ c.in-Keyed.is c.deref.ensures c.deref-in-Keyed.ensures) (adds_both c.in_ok-add_key-in-Keyed.ensures (adds_both c.in_ok-push_value-in-Keyed.ensures h))) c.add_types-in-Keyed.ensures
 
 pub add_grpent-returns-in-Grouped : goal.add_grpent-returns-in-Grouped
 add_grpent-returns-in-Grouped t c =
-    on_ok c.add_bracketed.result _ _ (λ h. adds_as _ (λ read. grouped_pieces read _ c.in-Grouped.occur c.in-Grouped.opening c.in-Grouped.group c.in-Grouped.closing c.in-Grouped.is) h) c.add_bracketed.ensures
+    on_ok c.add_bracketed.result _ _ (λ h. adds_as _ (λ read. grouped_pieces read (view_around read c.args.around) _ c.in-Grouped.occur c.in-Grouped.opening c.in-Grouped.group c.in-Grouped.closing c.in-Grouped.is) h) c.add_bracketed.ensures
 
 pub add_key-returns-in-TypeKey : goal.add_key-returns-in-TypeKey
 add_key-returns-in-TypeKey t c =

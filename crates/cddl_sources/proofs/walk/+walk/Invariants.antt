@@ -6,10 +6,10 @@ use Rattle.cddl_sources.proofs.Adding.{Continues}
 use Rattle.cddl_sources.proofs.walk.+walk.Given as goal
 
 abbrev pub invariant-add_entries-loop-entry : goal.invariant-add_entries-loop-entry
-invariant-add_entries-loop-entry l = Continues Entry entry_pieces l.fn.found.items l.found.items l.rule l.entry-items l.entry-index
+invariant-add_entries-loop-entry l = Continues Entry (entry_pieces l.around) l.fn.found.items l.found.items l.rule l.entry-items l.entry-index
 
 abbrev pub invariant-add_further-loop-further : goal.invariant-add_further-loop-further
 invariant-add_further-loop-further l = Continues Further further_pieces l.fn.found.items l.found.items l.rule l.further-items l.further-index
 
 abbrev pub invariant-add_group-loop-choice : goal.invariant-add_group-loop-choice
-invariant-add_group-loop-choice l = Continues GrpChoice choice_pieces l.initial.found.items l.found.items l.rule l.choice-items l.choice-index
+invariant-add_group-loop-choice l = Continues GrpChoice (choice_pieces l.around) l.initial.found.items l.found.items l.rule l.choice-items l.choice-index

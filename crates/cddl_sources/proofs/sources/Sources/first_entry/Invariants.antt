@@ -5,4 +5,4 @@ use Rattle.cddl_sources.proofs.sources.Sources.first_entry.Given as goal
 
 -- none of those so far is such an entry
 abbrev pub invariant-loop-piece : goal.invariant-loop-piece
-invariant-loop-piece l = (i : ℕ) (a : PieceAt) → i < l.piece-index → slice_get l.self.pieces.items i ≡ Some a → a.rule ≡ l.rule → IsPlacedIn l.around l.alternative l.place a.entry → ⊥
+invariant-loop-piece l = (i : ℕ) (a : PieceAt) → i < l.piece-index → slice_get l.self.pieces.items i ≡ Some a → a.rule ≡ l.rule → a.around ≡ l.around → IsPlacedIn l.alternative l.place a.entry → ⊥

@@ -4,10 +4,10 @@ use Rattle.cddl_sources.proofs.Stepping.{any_value, if_none, no_value, none_then
 use Rattle.cddl_sources.proofs.sources.Sources.value_in.Goals as goal
 
 pub returns-in_err-key-clause-none : goal.returns-in_err-key-clause-none
-returns-in_err-key-clause-none c = if_none c.from_residual.result _ (λ a h. some_none (sym h.there ∙ sym c.in_err-key.ensures))
+returns-in_err-key-clause-none c = if_none c.from_residual.result _ (λ a h. some_none (sym h.key_there ∙ sym c.in_err-key.ensures))
 
 pub returns-in_err-origin-clause-none : goal.returns-in_err-origin-clause-none
-returns-in_err-origin-clause-none c = if_none c.from_residual-in_err-origin.result _ (λ a h. some_none (sym h.is.there ∙ sym c.in_err-origin.ensures))
+returns-in_err-origin-clause-none c = if_none c.from_residual-in_err-origin.result _ (λ a h. some_none (sym h.there ∙ sym c.in_err-origin.ensures))
 
 pub returns-clause-some : goal.returns-clause-some
 returns-clause-some c = some_then c.first_value.result _ _ (λ a h. any_value c.args.self.now c.args.number c.args.found c.args.key c.args.link a (sym c.in_ok-key.ensures) (sym c.in_ok-origin.ensures) h.0 h.1 h.2) c.first_value.ensures.some
