@@ -1,5 +1,7 @@
 -- The lines of reasons, one by one.
-use Rattle.std.proofs.Common.{◌≡◌, ℕ, zero, suc, ◌+◌, List, [], ◌∷◌, ◌++◌, codes, map, take, Option, Some, None, IfNone, IfSome, slice_get, sym, ap, subst, ◌∙◌, arith}
+use Rattle.std.proofs.Common.{◌≡◌, ℕ, zero, suc, ◌+◌, List, [], ◌∷◌, ◌++◌, codes, map, take, Option, Some, None, IfNone, IfOk, IfSome, Result, Ok, Err, slice_get, refl, sym, ap, subst, ◌∙◌, arith}
+use Rattle.std.specs.List.{Contains}
+use Rattle.std.specs.declared.alloc.AllocError.{AllocError}
 use Rattle.cbor_data.specs.Value.{Value}
 use Rattle.cddl_token.specs.declared.Token.{Token}
 use Rattle.type_links.specs.declared.link.Link.{Link}
@@ -34,6 +36,11 @@ take_one_more xs i x e = let on : i + 1 ≡ suc i = omega arith in ap (λ n. tak
 pub placed : (x : Sources) (chain : List Link) (p : Option Place) → IfSome p (λ q. IsPlaceOf x chain (Some q)) → IfNone p (IsPlaceOf x chain None) → IsPlaceOf x chain p
 placed x chain (Some p) some none = some
 placed x chain None some none = none
+
+-- the same of an answer, if there is one
+pub placed_by : (x : Sources) (chain ids : List Link) (r : Result (Option Place) AllocError) → chain ≡ ids → IfOk r (λ o. IfSome o (λ q. IsPlaceOf x chain (Some q))) → IfOk r (λ o. IfNone o (IsPlaceOf x chain None)) → IfOk r (λ o. IsPlaceOf x ids o)
+placed_by x chain ids (Ok p) e some none = subst (λ (ms : List Link). IsPlaceOf x ms p) e (placed x chain p some none)
+placed_by x chain ids (Err f) e some none = tt
 
 -- the line tells what is found at the place
 pub told_there : (text : List ℕ) (tokens : List Token) (file : List ℕ) (p : Place) (x : Value) (r : Reason) (found : List ℕ) (cause : Cause) (line : List ℕ) → ArePlaceWords (codes "$") x (map holder_view r.strings.items) r.place found → cause ≡ told_cause r.greedy r.cause → IsLineAt text tokens file p found cause line → IsToldOf text tokens file p x r line

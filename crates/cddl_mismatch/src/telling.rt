@@ -112,7 +112,7 @@ fn place_of(alloc: Global, sources: &Sources, reason: &Reason) -> Result<Option<
     ensures { IfOk result (λ place. IsPlaced sources.now reason.now place) }
 {
     let chain = chain_of(alloc, reason)?;
-    Ok(sources.place(&chain))
+    sources.place(alloc, &chain)
 }
 
 // The line of a reason whose last type stands at this place.

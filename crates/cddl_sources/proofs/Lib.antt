@@ -9,3 +9,4 @@ mod Reading
 mod Placing
 mod Standing
 mod Stepping
+mod Splicing

@@ -31,7 +31,7 @@ use Rattle.tree_nodes.specs.declared.tree.Type2.TheVariants as Type2V
 use Rattle.tree_nodes.specs.declared.tree.GrpEnt.TheViews.{out-Types, out-GenericArg, out-Group, out-GrpChoice}
 use Rattle.tree_nodes.specs.View.{leaf, view_type1, view_type2, view_ref, view_key, view_grpent, view_rule, view_value, view_further, view_entry, view_choice, view_types, view_arg, view_group, with_types, with_arguments, with_entries, with_choices}
 use Rattle.tree_nodes.proofs.Lemmas.{view-Name, view-Applied, view-One, view-Operation, view-Literal, view-Typename, view-Parens, view-MapOf, view-ArrayOf, view-Unwrapped, view-ChoiceOf, view-ChoiceOfName, view-Tagged, view-TaggedBy, view-SimpleBy, view-Hash, view-Typed, view-Keyed, view-Grouped, view-TypeKey, view-Bareword, view-ValueKey, view-Entry, view-Further, view_out-GrpChoice, view_out-Types, view_out-GenericArg, view_out-Group}
-use Rattle.cddl_sources.specs.Pieces.{Around, Piece, a_type, a_value, a_word, an_entry, bare_type1, bare_types, brackets, count_of, entries_in, inner_of, key_piece, operand, in_types, in_members, in_type1, in_type2, in_ref, in_arguments, in_group, in_entries, in_entry, in_key, in_rule, inner_or, name_of_type1, name_of_types, of_group, of_types, own_count, own_entries, the_rule}
+use Rattle.cddl_sources.specs.Pieces.{Around, Piece, a_member, a_type, a_value, a_word, an_entry, bare_type1, bare_types, brackets, count_of, entries_in, inner_of, key_piece, operand, in_types, in_members, in_type1, in_type2, in_ref, in_arguments, in_group, in_entries, in_entry, in_key, in_rule, inner_or, name_of_type1, name_of_types, of_group, of_types, own_count, own_entries, the_rule}
 use Rattle.cddl_sources.specs.Walk.{further_pieces, entry_pieces, choice_pieces, view_around}
 use Rattle.cddl_sources.specs.declared.node.AroundNode.{AroundNode}
 
@@ -166,7 +166,7 @@ module _ (read : Leaf → Token) where
   seen_entry : (b : Around) (x y : GrpEnt) (v : S.GrpEnt) → x ≡ y → view_grpent read y ≡ v → in_entry b (view_grpent read x) ≡ in_entry b v
   seen_entry b x y v is e = ap (λ (z : GrpEnt). in_entry b (view_grpent read z)) is ∙ ap (in_entry b) e
 
-  pub typed_pieces : (b : Around) (x : GrpEnt) (o : Option Leaf) (t : Types) → x ≡ GrpEntV.Typed o t → in_entry b (view_grpent read x) ≡ in_types (view_types read t)
+  pub typed_pieces : (b : Around) (x : GrpEnt) (o : Option Leaf) (t : Types) → x ≡ GrpEntV.Typed o t → in_entry b (view_grpent read x) ≡ a_member b (view_types read t) ∷ in_types (view_types read t)
   typed_pieces b x o t is = seen_entry b x _ _ is (view-Typed read o t)
 
   pub keyed_pieces : (b : Around) (x : GrpEnt) (o : Option Leaf) (k : Box MemberKey Global) (t : Types) (y z : MemberKey) → x ≡ GrpEntV.Keyed o k t → y ≡ k.value → z ≡ k.value → in_entry b (view_grpent read x) ≡ in_key (view_key read y) ++ (a_value b (key_piece (view_key read z)) (view_types read t) ∷ in_types (view_types read t))
@@ -201,7 +201,7 @@ module _ (read : Leaf → Token) where
   pub value_key : (x : MemberKey) (v : Value) (c : Leaf) → x ≡ MemberKeyV.ValueKey v c → operand (S.literal (view_value read v)) ≡ key_piece (view_key read x)
   value_key x v c is = sym (ap (λ (z : MemberKey). key_piece (view_key read z)) is ∙ ap key_piece (view-ValueKey read v c))
 
-  pub type_rule_pieces : (x : Rule) (n : RuleName) (a : AssignT) (t : Types) → x ≡ RuleV.TypeRule n a t → in_rule (view_rule read x) ≡ an_entry the_rule 0 0 (of_types (view_types read t)) ∷ in_types (view_types read t)
+  pub type_rule_pieces : (x : Rule) (n : RuleName) (a : AssignT) (t : Types) → x ≡ RuleV.TypeRule n a t → in_rule (view_rule read x) ≡ an_entry the_rule 0 0 (of_types (view_types read t)) ∷ a_member the_rule (view_types read t) ∷ in_types (view_types read t)
   type_rule_pieces x n a t is = ap (λ (z : Rule). in_rule (view_rule read z)) is
 
   pub group_rule_pieces : (x : Rule) (n : RuleName) (a : AssignG) (e : GrpEnt) → x ≡ RuleV.GroupRule n a e → in_rule (view_rule read x) ≡ own_entries (view_grpent read e) ++ in_entry the_rule (view_grpent read e)

@@ -18,12 +18,12 @@ use Rattle.table_nodes.specs.declared.nodes.TypeId.{TypeId}
 use Rattle.table_nodes.specs.declared.table.Table.{Table as Made}
 use Rattle.type_links.specs.declared.link.Link.{Link}
 use Rattle.type_links.specs.declared.link.Link.TheVariants as L
-use Rattle.cddl_sources.specs.Origins.{AreRound, AreRoundIt, IsKeyOf, IsNumberOf, IsOriginOf, IsPieceAt, MayBeIn, MayBeOf, Stands as IsThere, is_of, no_type, of_type, of_value as of_keyed, of_word as of_token}
-use Rattle.cddl_sources.specs.Pieces.{Around, Piece, a_type, a_value, a_word, alternatives_of, an_entry, brackets, in_rule, name_there, the_rule, name_of_piece, tokens_of_piece}
-use Rattle.cddl_sources.specs.Places.{AreEnds, AreNoPair, ArePairAt, BeginsWithInstance, IsEntryAt, IsEntryNamed, IsEntryWithin, IsOf, IsOfNoRule, IsPlace, IsShown, IsTypeAt, IsValueAt, Leads, LeadsTo, Make, Stands, StandsAt, StandsIn, a_piece, another, are_ends, arrives, named, no_rules, of_entry, of_value, one_more, passes, the_body, to_pair, to_type, within}
+use Rattle.cddl_sources.specs.Origins.{AreRound, AreRoundIt, IsKeyOf, IsNumberOf, IsOriginOf, IsPieceAt, MayBeIn, MayBeOf, Stands as IsThere, is_of, may_be_group, no_type, of_type, of_value as of_keyed, of_word as of_token}
+use Rattle.cddl_sources.specs.Pieces.{Around, Piece, a_member, a_type, a_value, a_word, alternatives_of, an_entry, brackets, in_rule, name_of_types, name_there, the_rule, name_of_piece, tokens_of_piece}
+use Rattle.cddl_sources.specs.Places.{AreEnds, AreNoPair, ArePairAt, BeginsWithInstance, IsEntryAt, IsEntryNamed, IsEntryWithin, IsOf, IsOfNoRule, IsPlace, IsShown, IsSpliced, IsTypeAt, IsValueAt, Leads, LeadsTo, Make, Stands, StandsAt, StandsIn, a_piece, another, are_ends, arrives, in_a_rule, in_group, in_map, named, named_in_group, named_in_map, no_rules, of_entry, of_value, one_more, passes, the_body, to_pair, to_type, within}
 use Rattle.cddl_sources.specs.Sources.{AreSources, IsRuleAt}
 use Rattle.cddl_sources.specs.Spans.{IsNameSpan, IsSpan, IsWithin, Spot, body_tokens}
-use Rattle.cddl_sources.specs.States.{AreNoPairIn, ArePairIn, ArePassed, HasNoRule, HasNumber, IsEntryNamed as IsNamedNumbers, IsEntryOf, IsEntryWithin as IsWithinNumbers, IsFoundAfter, IsFrom, IsStateAfter, IsTold, IsTypeIn, IsValueFrom, IsValueIn, LeadsIn, arrives as by_none, count_in, counted, flattened, named as by_name, name_number, number_at, number_in, of_entry as by_entry, of_value as by_value, origin_at, passes as gone_by, text_in, to_pair as by_pair, to_type as by_type, within as by_brackets}
+use Rattle.cddl_sources.specs.States.{AreNoPairIn, ArePairIn, ArePassed, HasNoRule, HasNumber, IsEntryNamed as IsNamedNumbers, IsEntryOf, IsEntryWithin as IsWithinNumbers, IsFoundAfter, IsFrom, IsInBody, IsMember, IsSplicedIn, IsStateAfter, IsTold, IsTypeIn, IsValueFrom, IsValueIn, LeadsIn, arrives as by_none, count_in, counted, flattened, named as by_name, name_number, number_at, number_in, named_in_group as numbered_in_group, named_in_map as numbered_in_map, of_entry as by_entry, of_value as by_value, origin_at, passes as gone_by, text_in, to_pair as by_pair, to_type as by_type, value_in_group, value_in_map, within as by_brackets}
 use Rattle.cddl_sources.specs.declared.piece.EntryAt.{EntryAt}
 use Rattle.cddl_sources.specs.declared.piece.PieceAt.{PieceAt}
 use Rattle.cddl_sources.specs.declared.place.Place.{Place}
@@ -173,6 +173,7 @@ module _ (s : Sense) (table : Made) (x : Sources) (k : AreSources s table x) whe
   origin_of : (p : Piece) (o : Option TypeOrigin) (u : TypeOrigin) → MayBeOf k.made.more p o → o ≡ Some u → IsOriginOf k.made.more p u
   origin_of p o u (is_of {u = v} h) e = subst (IsOriginOf k.made.more p) (same_some e) h
   origin_of p o u no_type e = cc
+  origin_of p o u may_be_group e = cc
 
   type_origin : (p : Piece) (m : Link) → IsOf (rules_of s.tree) (IsNameOfType s k.terms k.nodes) p m → (o : Option TypeOrigin) → MayBeOf k.made.more p o → (u : TypeOrigin) × (origin_at x m ≡ Some u) × (o ≡ Some u)
   type_origin p (L.Alternative i) h o d = absurd h.2
@@ -181,6 +182,7 @@ module _ (s : Sense) (table : Made) (x : Sources) (k : AreSources s table x) whe
       let is = h.2 in
       (is.origin, ap (λ os. slice_get os m.number) k.made.origins ∙ is.there, ap Some (same_origin p v d h.0 is.origin h.1 is.named))
   type_origin p (L.Type m) h o no_type = absurd (no_some h.1)
+  type_origin p (L.Type m) h o may_be_group = absurd (no_some h.1)
 
   -- what is found stands there
 
@@ -304,6 +306,7 @@ module _ (s : Sense) (table : Made) (x : Sources) (k : AreSources s table x) whe
       by (a_type z) b g there = absurd (some_none (sym h.is.there ∙ g))
       by (a_word w) b g there = absurd (some_none (sym h.is.there ∙ g))
       by (a_value r q z) b g there = absurd (some_none (sym h.is.there ∙ g))
+      by (a_member r z) b g there = absurd (some_none (sym h.is.there ∙ g))
 
   rule_counted : (i n own : ℕ) → own < count_in n (slice_get x.rules.items i) → (at : RuleAt) × (slice_get x.rules.items i ≡ Some at) × (at.number ≡ n) × (own < at.alternatives)
   rule_counted i n own h = by (slice_get x.rules.items i) refl h
@@ -365,6 +368,7 @@ module _ (s : Sense) (table : Made) (x : Sources) (k : AreSources s table x) whe
       by (a_type z) b g there is = absurd (some_none (sym h.is.is.there ∙ g))
       by (a_word w) b g there is = absurd (some_none (sym h.is.is.there ∙ g))
       by (a_value r q z) b g there is = absurd (some_none (sym h.is.is.there ∙ g))
+      by (a_member r z) b g there is = absurd (some_none (sym h.is.is.there ∙ g))
 
   entry_at : (from : Option PieceAt) (j i : ℕ) (a : PieceAt) → IsEntryOf x from j i a → IsEntryAt (rules_of s.tree) (IsNameOfType s k.terms k.nodes) (option_map spot from) j i (spot a)
   entry_at from j i a (by_brackets {around = b} h) = within (entry_within_at b a j i h)
@@ -425,6 +429,67 @@ module _ (s : Sense) (table : Made) (x : Sources) (k : AreSources s table x) whe
           let w = entry_named_in b.0 j i at (subst (λ (v : Spot). IsEntryNamed (rules_of s.tree) (IsNameOfType s k.terms k.nodes) v j i at) (sym b.2) h) in
           (w.0, subst (λ (f : Option PieceAt). IsEntryOf x f j i w.0) (sym b.1) (by_name w.1))
 
+  -- a rule has the number of its name
+  rule_number : (i j n : ℕ) (y : Text) (r : S.Rule) → i ≡ j → slice_get (rules_of s.tree) j ≡ Some r → name_in r ≡ y → slice_get k.made.more.texts n ≡ Some y → HasNumber x i n
+  rule_number i j n y r same there f e =
+      let ra = k.made.rules.all j r there in
+      let told = k.made.rules.told j ra.0 ra.1 in
+      let is : told.0 ≡ r = one_of (slice_get (rules_of s.tree) j) told.0 r told.1 there in
+      record { at = ra.0; there = ap (slice_get x.rules.items) same ∙ ra.1; same = k.made.distinct ra.0.number n y (told.2.number ∙ ap Some (ap name_in is ∙ f)) e }
+
+  body_name : (a : PieceAt) (n : ℕ) (st : IsThere k.made.more (rules_of s.tree) a) → HasNumber x a.rule n → slice_get k.made.more.texts n ≡ Some (name_in st.rule)
+  body_name a n st h =
+      let told = k.made.rules.told a.rule h.at h.there in
+      let is : told.0 ≡ st.rule = one_of (slice_get (rules_of s.tree) a.rule) told.0 st.rule told.1 st.there in
+      ap (slice_get k.made.more.texts) (sym h.same) ∙ told.2.number ∙ ap Some (ap name_in is)
+
+  -- the names of the groups whose entries are a map's
+
+  member_of : (n : ℕ) (y : Text) (a : PieceAt) → slice_get k.made.more.texts n ≡ Some y → IsMember x n a → (st : IsThere k.made.more (rules_of s.tree) a) → (r : Around) × (t : S.Types) × (st.piece ≡ a_member r t) × (name_of_types t ≡ Some y) × AreRound r a.around
+  member_of n y a e m st = by st.piece refl st.is.entry st.is.around (sym (name_there_is (name_there st.piece) a.name st.is.name) ∙ ap (text_at k.made.more) m.name ∙ e)
+    where
+      by : (p : Piece) → st.piece ≡ p → MayBeIn p a.entry → AreRoundIt p a.around → name_there p ≡ Some y → (r : Around) × (t : S.Types) × (st.piece ≡ a_member r t) × (name_of_types t ≡ Some y) × AreRound r a.around
+      by (a_member r t) is g b f = (r, t, is, f, b)
+      by (an_entry r j i z) is g b f = absurd (some_none (sym g.1 ∙ m.alone))
+      by (a_type z) is g b f = cc
+      by (a_word w) is g b f = cc
+      by (a_value r q z) is g b f = cc
+
+  member_stands : (a : PieceAt) (st : IsThere k.made.more (rules_of s.tree) a) (p : Piece) → st.piece ≡ p → (h : Stands (rules_of s.tree) (IsNameOfType s k.terms k.nodes) p (spot a)) × (h.rule ≡ st.rule)
+  member_stands a st p e = subst (λ (q : Piece). (h : Stands (rules_of s.tree) (IsNameOfType s k.terms k.nodes) q (spot a)) × (h.rule ≡ st.rule)) e (stands a st, refl)
+
+  body_spliced : (map a : PieceAt) (y : Text) (st : IsThere k.made.more (rules_of s.tree) a) (r : Around) (t : S.Types) → st.piece ≡ a_member r t → name_of_types t ≡ Some y → AreRound r a.around → a.around ≡ None → IsSpliced (rules_of s.tree) (IsNameOfType s k.terms k.nodes) (spot map) (name_in st.rule) → IsSpliced (rules_of s.tree) (IsNameOfType s k.terms k.nodes) (spot map) y
+  body_spliced map a y st (brackets o c) t is name round none rest = absurd (some_none (sym round.1 ∙ none))
+  body_spliced map a y st the_rule t is name round none rest =
+      let h = member_stands a st (a_member the_rule t) is in
+      named_in_group h.0 name (subst (λ (r : S.Rule). IsSpliced (rules_of s.tree) (IsNameOfType s k.terms k.nodes) (spot map) (name_in r)) (sym h.1) rest)
+
+  spliced_at : (map : PieceAt) {n : ℕ} → IsSplicedIn x map n → (y : Text) → slice_get k.made.more.texts n ≡ Some y → IsSpliced (rules_of s.tree) (IsNameOfType s k.terms k.nodes) (spot map) y
+  spliced_at map (numbered_in_map {n = n} {a = a} known m b) y e =
+      let st = k.made.pieces.each a m.contained in
+      let w = member_of n y a e m st in
+      let h = member_stands a st (a_member w.0 w.1) w.2 in
+      named_in_map h.0 w.3 b.0 (round_ends map w.0 a.around w.4 b.1)
+  spliced_at map (numbered_in_group {n = n} {m = j} {a = a} known m b g) y e =
+      let st = k.made.pieces.each a m.contained in
+      let w = member_of n y a e m st in
+      body_spliced map a y st w.0 w.1 w.2 w.3 w.4 b.0 (spliced_at map g (name_in st.rule) (body_name a j st b.1))
+
+  member_in : (r : Around) (t : S.Types) (at : Spot) (y : Text) → name_of_types t ≡ Some y → (h : Stands (rules_of s.tree) (IsNameOfType s k.terms k.nodes) (a_member r t) at) → (a : PieceAt) × (n : ℕ) × IsMember x n a × (a.rule ≡ at.rule) × AreRound r a.around × (slice_get k.made.more.texts n ≡ Some y)
+  member_in r t at y name h =
+      let w = piece_there (a_member r t) at h in
+      let g : IsNumberOf k.made.more (Some y) w.0.name = subst (λ (o : Option Text). IsNumberOf k.made.more o w.0.name) name w.3.name in
+      (w.0, g.0, record { contained = w.1; alone = w.3.entry; name = g.1 }, ap (λ (z : Spot). z.rule) w.2, w.3.around, g.2)
+
+  spliced_in : (map : PieceAt) {y : Text} → IsSpliced (rules_of s.tree) (IsNameOfType s k.terms k.nodes) (spot map) y → (n : ℕ) × (slice_get k.made.more.texts n ≡ Some y) × IsSplicedIn x map n
+  spliced_in map (named_in_map {a = r} {t = t} {at = at} {n = y} h name rule ends) =
+      let w = member_in r t at y name h in
+      (w.1, w.5, numbered_in_map (k.made.names w.1 y w.5) w.2 (w.3 ∙ rule, ends_round map r w.0.around ends w.4))
+  spliced_in map (named_in_group {t = t} {at = at} {n = y} h name g) =
+      let w = member_in the_rule t at y name h in
+      let m = spliced_in map g in
+      (w.1, w.5, numbered_in_group (k.made.names w.1 y w.5) w.2 (w.4, rule_number w.0.rule at.rule m.0 (name_in h.rule) h.rule w.3 h.there refl m.1) m.2)
+
   -- The rules of a name, by the number of the name.
   module _ (n : ℕ) (y : Text) (e : slice_get k.made.more.texts n ≡ Some y) where
     stands_at : (from : Option PieceAt) (a : PieceAt) → IsFrom x n from a → (st : IsThere k.made.more (rules_of s.tree) a) → StandsAt (rules_of s.tree) (IsNameOfType s k.terms k.nodes) y (option_map spot from) st.piece (spot a)
@@ -440,8 +505,10 @@ module _ (s : Sense) (table : Made) (x : Sources) (k : AreSources s table x) whe
         record { piece = st.piece; stands = stands_at from a h.inside st; is = named_piece st.piece h.origin m h.there (origin_of st.piece a.origin h.origin st.is.origin h.is.same) }
 
     stands_in : (from : Option PieceAt) (a : PieceAt) → IsValueFrom x n from a → (st : IsThere k.made.more (rules_of s.tree) a) (r : Around) → AreRound r a.around → StandsIn (rules_of s.tree) (IsNameOfType s k.terms k.nodes) y (option_map spot from) r st.piece (spot a)
-    stands_in None a h st r b = stands_at None a h st
-    stands_in (Some o) a h st r b = (stands a st, h.0, round_ends o r a.around b h.1)
+    stands_in None a h st r b = let w = stands_at None a h st in in_a_rule w.0 w.1
+    stands_in (Some o) a (value_in_map h) st r b = in_map (stands a st) h.0 (round_ends o r a.around b h.1)
+    stands_in (Some o) a (value_in_group {n = m} h g) st (brackets l c) b = absurd (some_none (sym b.1 ∙ h.0))
+    stands_in (Some o) a (value_in_group {n = m} h g) st the_rule b = in_group (stands a st) (spliced_at o g (name_in st.rule) (body_name a m st h.1))
 
     value_at : (from : Option PieceAt) (key m : Link) (a : PieceAt) → IsValueIn x n from key m a → IsValueAt (rules_of s.tree) (IsNameOfType s k.terms k.nodes) y (option_map spot from) key m (spot a)
     value_at from key m a h = by st.piece st.is.key st.is.around (stands_in from a h.inside st) (named_piece st.piece h.origin m h.there (origin_of st.piece a.origin h.origin st.is.origin h.is.same))
@@ -453,6 +520,7 @@ module _ (s : Sense) (table : Made) (x : Sources) (k : AreSources s table x) whe
         by (a_value r q z) g b there is = record { around = r; key_piece = q; types = z; stands = there r b; is_key = named_piece q h.key_origin key h.key_there (origin_of q a.key h.key_origin g h.same); is = is }
         by (a_type z) g b there is = absurd (some_none (sym h.same ∙ g))
         by (a_word w) g b there is = absurd (some_none (sym h.same ∙ g))
+        by (a_member o z) g b there is = absurd (some_none (sym h.same ∙ g))
         by (an_entry o j i e) g b there is = absurd (some_none (sym h.same ∙ g))
 
     pair_at : (from : Option PieceAt) (first second : Link) (a : PieceAt) → ArePairIn x n from first second a → ArePairAt (rules_of s.tree) (IsNameOfType s k.terms k.nodes) y (option_map spot from) first second (spot a)
@@ -464,12 +532,7 @@ module _ (s : Sense) (table : Made) (x : Sources) (k : AreSources s table x) whe
     found_at : (from : Option PieceAt) (p : Piece) (at : Spot) → StandsAt (rules_of s.tree) (IsNameOfType s k.terms k.nodes) y (option_map spot from) p at → (a : PieceAt) × Contains x.pieces.items a × IsFrom x n from a × IsPieceAt k.made.more p a
     found_at None p at h =
         let w = piece_there p at h.0 in
-        let rule : w.0.rule ≡ at.rule = ap (λ (z : Spot). z.rule) w.2 in
-        let ra = k.made.rules.all at.rule h.0.rule h.0.there in
-        let told = k.made.rules.told at.rule ra.0 ra.1 in
-        let is : told.0 ≡ h.0.rule = one_of (slice_get (rules_of s.tree) at.rule) told.0 h.0.rule told.1 h.0.there in
-        let number : ra.0.number ≡ n = k.made.distinct ra.0.number n y (told.2.number ∙ ap Some (ap name_in is ∙ h.1)) e in
-        (w.0, w.1, record { at = ra.0; there = ap (slice_get x.rules.items) rule ∙ ra.1; same = number }, w.3)
+        (w.0, w.1, rule_number w.0.rule at.rule n y h.0.rule (ap (λ (z : Spot). z.rule) w.2) h.0.there h.1 e, w.3)
     found_at (Some o) p at h =
         let w = piece_there p at h.0 in
         (w.0, w.1, subst (λ (z : Spot). IsWithin (spot o) z) (sym w.2) h.1, w.3)
@@ -481,10 +544,14 @@ module _ (s : Sense) (table : Made) (x : Sources) (k : AreSources s table x) whe
         (w.0, record { origin = o.0; there = o.1; is = record { contained = w.1; same = o.2 }; inside = w.2 })
 
     found_in : (from : Option PieceAt) (r : Around) (q : Piece) (z : S.Types) (at : Spot) → StandsIn (rules_of s.tree) (IsNameOfType s k.terms k.nodes) y (option_map spot from) r (a_value r q z) at → (a : PieceAt) × Contains x.pieces.items a × IsValueFrom x n from a × IsPieceAt k.made.more (a_value r q z) a
-    found_in None r q z at h = found_at None (a_value r q z) at h
-    found_in (Some o) r q z at h =
-        let w = piece_there (a_value r q z) at h.0 in
-        (w.0, w.1, (ap (λ (z : Spot). z.rule) w.2 ∙ h.1, ends_round o r w.0.around h.2 w.3.around), w.3)
+    found_in None r q z at (in_a_rule h g) = found_at None (a_value r q z) at (h, g)
+    found_in (Some o) r q z at (in_map h rule ends) =
+        let w = piece_there (a_value r q z) at h in
+        (w.0, w.1, value_in_map (ap (λ (z : Spot). z.rule) w.2 ∙ rule, ends_round o r w.0.around ends w.3.around), w.3)
+    found_in (Some o) r q z at (in_group h g) =
+        let w = piece_there (a_value the_rule q z) at h in
+        let m = spliced_in o g in
+        (w.0, w.1, value_in_group (w.3.around, rule_number w.0.rule at.rule m.0 (name_in h.rule) h.rule (ap (λ (z : Spot). z.rule) w.2) h.there refl m.1) m.2, w.3)
 
     value_in : (from : Option PieceAt) (key m : Link) (at : Spot) → IsValueAt (rules_of s.tree) (IsNameOfType s k.terms k.nodes) y (option_map spot from) key m at → (a : PieceAt) × IsValueIn x n from key m a
     value_in from key m at h =

@@ -1,15 +1,15 @@
 -- What one link more leads to.
-use Rattle.std.proofs.Common.{◌≡◌, ◌⊎◌, ◌+◌, ◌-◌, ◌<◌, inl, inr, ℕ, zero, suc, ◌≤◌, drop, length, take, get_or, arith, Bool, true, false, List, [], ◌∷◌, ◌++◌, Option, Some, None, IfNone, IfSome, slice_get, refl, sym, ap, subst, ◌∙◌, append_assoc}
+use Rattle.std.proofs.Common.{◌≡◌, ◌⊎◌, ◌+◌, ◌-◌, ◌<◌, inl, inr, ℕ, zero, suc, ◌≤◌, drop, length, take, get_or, arith, Bool, true, false, List, [], ◌∷◌, ◌++◌, Option, Some, None, IfNone, IfOk, IfSome, Result, Ok, Err, slice_get, refl, sym, ap, subst, ◌∙◌, append_assoc}
 use Rattle.std.specs.List.{Contains}
 use Rattle.std.proofs.lemmas.List.{append-nil, take_more}
 use Rattle.std.proofs.lemmas.List.Elements.{Contains-append_left, Contains-push_cases}
-use Rattle.lists.proofs.Lemmas.{no_some, none_in, same_some}
+use Rattle.lists.proofs.Lemmas.{no_some, none_in, same_some, within as list_within}
 use Rattle.table_making.specs.declared.origin.TypeOrigin.{TypeOrigin}
 use Rattle.table_making.specs.declared.origin.TypeOrigin.TheVariants as T
 use Rattle.table_nodes.specs.declared.nodes.TypeId.{TypeId}
 use Rattle.type_links.specs.declared.link.Link.{Link}
 use Rattle.type_links.specs.declared.link.Link.TheVariants as L
-use Rattle.cddl_sources.specs.States.{ArePairIn, ArePassed, HasNoRule, HasNumber, IsAlternative, IsEntryNamed, IsEntryOf, IsEntryOfRule, IsEntryWithin, IsFoundAfter, IsFrom, IsRuleIn, IsOfOrigin, IsStarted, IsStateAfter, IsStateOf, IsTypeIn, IsValueFrom, IsValueIn, LeadsIn, arrives, count_in, counted, named, of_entry, of_value, origin_at, passes, to_pair, to_type, with_held, within}
+use Rattle.cddl_sources.specs.States.{ArePairIn, ArePassed, HasNoRule, HasNumber, IsAlternative, IsEntryNamed, IsEntryOf, IsEntryOfRule, IsEntryWithin, IsFoundAfter, IsFrom, IsRuleIn, IsOfOrigin, IsStarted, IsStateAfter, IsStateOf, IsTypeIn, IsValueFrom, IsValueIn, LeadsIn, arrives, count_in, counted, named, of_entry, of_value, origin_at, passes, to_pair, to_type, value_in_group, value_in_map, with_held, within}
 use Rattle.cddl_sources.specs.declared.piece.PieceAt.{PieceAt}
 use Rattle.cddl_sources.specs.declared.place.State.{State}
 use Rattle.cddl_sources.specs.declared.sources.RuleAt.{RuleAt}
@@ -104,7 +104,8 @@ from_rule x n (Some o) a h g = (g.0, ap (slice_get x.rules.items) h.0 ∙ g.1)
 
 value_rule : (x : Sources) (n : ℕ) (from : Option PieceAt) (a : PieceAt) → IsValueFrom x n from a → IfSome from (λ b. IsRuleIn x b.rule) → IsRuleIn x a.rule
 value_rule x n None a h g = (h.at, h.there)
-value_rule x n (Some o) a h g = (g.0, ap (slice_get x.rules.items) h.0 ∙ g.1)
+value_rule x n (Some o) a (value_in_map h) g = (g.0, ap (slice_get x.rules.items) h.0 ∙ g.1)
+value_rule x n (Some o) a (value_in_group h s) g = (h.1.at, h.1.there)
 
 counted_rule : (x : Sources) (n own i : ℕ) → own < count_in n (slice_get x.rules.items i) → IsRuleIn x i
 counted_rule x n own i h = by (slice_get x.rules.items i) refl h
@@ -282,3 +283,33 @@ pub at_index : (chain : List Link) (i : ℕ) (d : Link) → i < length chain →
 at_index [] i d lt = absurd (omega (arith, lt))
 at_index (y ∷ ys) zero d lt = refl
 at_index (y ∷ ys) (suc i) d lt = at_index ys i d (omega (arith, lt))
+
+-- what holds of an answer holds where there is one
+pub ok_then : {A E : Type 0} (r : Result A E) (P Q : A → Type 0) → ((a : A) → P a → Q a) → IfOk r P → IfOk r Q
+ok_then (Ok a) P Q f h = f a h
+ok_then (Err e) P Q f h = tt
+
+-- an index below the next one
+pub below : (j k : ℕ) → j < k + 1 → (j < k) ⊎ (j ≡ k)
+below zero zero l = inr refl
+below zero (suc k) l = inl (omega arith)
+below (suc j) zero l = absurd (omega (arith, l))
+below (suc j) (suc k) l = elim (below j k (omega (arith, l))) [ inl e ↦ inl (omega (arith, e)) | inr e ↦ inr (ap suc e) ]
+
+pub get_there : {A : Type 0} (xs : List A) (i : ℕ) (d : A) → i < length xs → slice_get xs i ≡ Some (get_or xs i d)
+get_there [] i d l = absurd (omega (arith, l))
+get_there (y ∷ ys) zero d l = refl
+get_there (y ∷ ys) (suc i) d l = get_there ys i d (omega (arith, l))
+
+-- a rule with a number, among those so far
+
+pub no_number : (x : Sources) (n place : ℕ) (rs : List RuleAt) (d : RuleAt) → ((get_or rs place d).number ≡ n → ⊥) → rs ≡ x.rules.items → place < length rs → ((j : ℕ) → j < place → HasNumber x j n → ⊥) → (i : ℕ) → i < place + 1 → HasNumber x i n → ⊥
+no_number x n place rs d other e l before i m h = elim (below i place m) [ inl b ↦ before i b h | inr is ↦ here is ]
+  where
+    here : i ≡ place → ⊥
+    here is =
+        let there : slice_get rs place ≡ Some h.at = subst (λ (j : ℕ). slice_get rs j ≡ Some h.at) is (ap (λ (ys : List RuleAt). slice_get ys i) e ∙ h.there) in
+        other (ap (λ (r : RuleAt). r.number) (same_some (sym (get_there rs place d l) ∙ there)) ∙ h.same)
+
+pub no_number_at_all : (x : Sources) (n place : ℕ) (rs : List RuleAt) → rs ≡ x.rules.items → length rs ≤ place → ((j : ℕ) → j < place → HasNumber x j n → ⊥) → (i : ℕ) → HasNumber x i n → ⊥
+no_number_at_all x n place rs e le before i h = let l = list_within rs i h.at (ap (λ (ys : List RuleAt). slice_get ys i) e ∙ h.there) in before i (omega (arith, l, le)) h

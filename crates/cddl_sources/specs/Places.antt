@@ -8,7 +8,7 @@ use Rattle.cddl_language.specs.Terms.{Ref, Text, name_of}
 use Rattle.table_nodes.specs.declared.nodes.TypeId.{TypeId}
 use Rattle.type_links.specs.declared.link.Link.{Link}
 use Rattle.type_links.specs.declared.link.Link.TheVariants as L
-use Rattle.cddl_sources.specs.Pieces.{Around, Inner, Piece, a_value, alternatives_of, an_entry, brackets, in_rule, name_of_piece, name_there, the_rule, tokens_of_piece}
+use Rattle.cddl_sources.specs.Pieces.{Around, Inner, Piece, a_member, a_value, alternatives_of, an_entry, brackets, in_rule, name_of_piece, name_of_types, name_there, the_rule, tokens_of_piece}
 use Rattle.cddl_sources.specs.Spans.{IsNameSpan, IsSpan, IsWithin, Spot, body_tokens}
 use Rattle.cddl_sources.specs.declared.place.Place.{Place}
 use Rattle.cddl_sources.specs.declared.span.Span.{Span}
@@ -56,11 +56,17 @@ module _ (rules : List S.Rule) (names : TypeName → TypeId → Type 0) where
     pub stands : StandsAt n from piece at
     pub is : IsOf piece m
 
-  -- There stands the piece, in a group with this round it: that of the map which the other part of the text is, or any in a rule of
+  -- The name is that of a group whose entries are the map's: it is a member of the map by itself, or of a group of such a name.
+  pub data IsSpliced (map : Spot) : Text → Type 0 where
+    named_in_map : {a : Around} {t : S.Types} {at : Spot} {n : Text} → Stands (a_member a t) at → name_of_types t ≡ Some n → at.rule ≡ map.rule → AreEnds map a → IsSpliced map n
+    named_in_group : {t : S.Types} {at : Spot} {n : Text} → (h : Stands (a_member the_rule t) at) → name_of_types t ≡ Some n → IsSpliced map (name_in h.rule) → IsSpliced map n
+
+  -- There stands the piece, in a group with this round it: in one of the map that the other part of the text is, or any in a rule of
   -- this name, if none is given.
-  abbrev pub StandsIn : Text → Option Spot → Around → Piece → Spot → Type 0
-  StandsIn n None a p at = (h : Stands p at) × (name_in h.rule ≡ n)
-  StandsIn n (Some o) a p at = Stands p at × (at.rule ≡ o.rule) × AreEnds o a
+  pub data StandsIn (n : Text) : Option Spot → Around → Piece → Spot → Type 0 where
+    in_a_rule : {a : Around} {p : Piece} {at : Spot} → (h : Stands p at) → name_in h.rule ≡ n → StandsIn n None a p at
+    in_map : {map at : Spot} {a : Around} {p : Piece} → Stands p at → at.rule ≡ map.rule → AreEnds map a → StandsIn n (Some map) a p at
+    in_group : {map at : Spot} {p : Piece} → (h : Stands p at) → IsSpliced map (name_in h.rule) → StandsIn n (Some map) the_rule p at
 
   -- the value's type in an entry of the map that has these types as its key and as its value
   pub record IsValueAt (n : Text) (from : Option Spot) (key m : Link) (at : Spot) : Type 0 where

@@ -1,11 +1,11 @@
 -- What is known of a specification's rules and of its types in the text, by the numbers of its terms and of its table.
-use Rattle.std.specs.Prelude.{◌≡◌, ℕ, List, Some, map, slice_get}
+use Rattle.std.specs.Prelude.{◌≡◌, ◌<◌, ℕ, List, Some, map, slice_get}
 use Rattle.tree_nodes.specs.Syntax.Syntax as S
 use Rattle.tree_nodes.specs.View.{view}
 use Rattle.cddl_language.specs.Literals.{AreRight, Values}
 use Rattle.cddl_language.specs.Reading.{name_in, rules_of}
 use Rattle.cddl_language.specs.StandsFor.{AreInstances}
-use Rattle.cddl_language.specs.Terms.{Ref, Term}
+use Rattle.cddl_language.specs.Terms.{Ref, Term, Text}
 use Rattle.check_terms.specs.Table.{AreDistinct, Grows, Table}
 use Rattle.check_terms.specs.Trees.{IsRef, IsTerm}
 use Rattle.check_instances.specs.declared.closed.closed.Meaning.{Meaning}
@@ -45,6 +45,7 @@ pub record IsMade (t : Table) (ms : List Meaning) (rs : List S.Rule) (os : List 
   pub distinct : AreDistinct more.texts
   pub one_term : (n : ℕ) (a b : Term) → IsTerm more n a → IsTerm more n b → a ≡ b
   pub one_row : (n m : ℕ) (a : Term) → IsTerm more n a → IsTerm more m a → n ≡ m
+  pub names : (n : ℕ) (y : Text) → slice_get more.texts n ≡ Some y → n < x.names
   pub origins : x.origins.items ≡ os
   pub numbers : x.numbers.items ≡ map (name_number t.rows) ms
   pub rules : AreRules more rs x.rules.items

@@ -1,5 +1,6 @@
 -- What links have led to, by numbers.
-use Rattle.std.specs.Prelude.{◌≡◌, ℕ, ◌+◌, ◌<◌, ◌≤◌, nat_eq, if◌then◌else◌, Bool, true, false, List, [], ◌∷◌, ◌++◌, drop, Contains, Option, Some, None, slice_get}
+use Rattle.std.specs.Prelude.{◌≡◌, ◌↔◌, ℕ, ◌+◌, ◌<◌, ◌≤◌, nat_eq, if◌then◌else◌, Bool, true, false, List, [], ◌∷◌, ◌++◌, drop, Contains, Option, Some, None, slice_get}
+use Rattle.graphs.specs.declared.implications.Implication.{Implication}
 use Rattle.check_terms.specs.declared.row.Row.{Row}
 use Rattle.check_instances.specs.declared.closed.closed.Meaning.{Meaning}
 use Rattle.table_making.specs.declared.origin.TypeOrigin.{TypeOrigin}
@@ -77,10 +78,56 @@ pub record IsTypeIn (x : Sources) (n : ℕ) (from : Option PieceAt) (m : Link) (
   pub is : IsOfOrigin x origin a
   pub inside : IsFrom x n from a
 
--- the same of a value in an entry of a map: what was found before is the map
+-- its group has these brackets round it
+abbrev pub IsBetween : PieceAt → PieceAt → Type 0
+IsBetween o a = (a.rule ≡ o.rule) × (a.around ≡ Some o.span)
+
+-- its group is the body of a rule with this number
+abbrev pub IsInBody : Sources → ℕ → PieceAt → Type 0
+IsInBody x n a = (a.around ≡ None) × HasNumber x a.rule n
+
+-- it is an entry without a key that is the name of this number
+pub record IsMember (x : Sources) (n : ℕ) (a : PieceAt) : Type 0 where
+  pub contained : Contains x.pieces.items a
+  pub alone : a.entry ≡ None
+  pub name : a.name ≡ Some n
+
+-- The name of this number is that of a group whose entries are the map's.
+pub data IsSplicedIn (x : Sources) (map : PieceAt) : ℕ → Type 0 where
+  named_in_map : {n : ℕ} {a : PieceAt} → n < x.names → IsMember x n a → IsBetween map a → IsSplicedIn x map n
+  named_in_group : {n m : ℕ} {a : PieceAt} → n < x.names → IsMember x n a → IsInBody x m a → IsSplicedIn x map m → IsSplicedIn x map n
+
+-- the value is in an entry of the map
+pub data IsValueOf (x : Sources) (map a : PieceAt) : Type 0 where
+  value_in_map : IsBetween map a → IsValueOf x map a
+  value_in_group : {n : ℕ} → IsInBody x n a → IsSplicedIn x map n → IsValueOf x map a
+
+-- the same, where what was found before is the map, or in a rule with this number, if nothing was
 abbrev pub IsValueFrom : Sources → ℕ → Option PieceAt → PieceAt → Type 0
 IsValueFrom x n None a = HasNumber x a.rule n
-IsValueFrom x n (Some o) a = (a.rule ≡ o.rule) × (a.around ≡ Some o.span)
+IsValueFrom x n (Some map) a = IsValueOf x map a
+
+-- for each number whether it is that of such a name
+pub record AreSpliced (x : Sources) (map : PieceAt) (flags : List Bool) : Type 0 where
+  pub each : (n : ℕ) → (slice_get flags n ≡ Some true) ↔ IsSplicedIn x map n
+
+abbrev pub AreSplicedFrom : Sources → Option PieceAt → List Bool → Type 0
+AreSplicedFrom x None flags = Unit {0}
+AreSplicedFrom x (Some map) flags = AreSpliced x map flags
+
+-- its group is the body of a rule whose number has a flag
+abbrev pub IsFlagged : Sources → List Bool → PieceAt → Type 0
+IsFlagged x flags a = (n : ℕ) × IsInBody x n a × (slice_get flags n ≡ Some true)
+
+-- What follows from one piece: the name of a member of the map is that of a group whose entries are its; and one of a member of a
+-- rule, if the name of the rule is.
+pub data IsStep (x : Sources) (map a : PieceAt) : Implication → Type 0 where
+  step_in_map : {n : ℕ} → IsMember x n a → IsBetween map a → IsStep x map a (record { then = n; first = None; second = None })
+  step_in_group : {n m : ℕ} → IsMember x n a → IsInBody x m a → IsStep x map a (record { then = n; first = Some m; second = None })
+
+pub record AreSteps (x : Sources) (map : PieceAt) (steps : List Implication) : Type 0 where
+  pub each : (i : Implication) → Contains steps i → (a : PieceAt) × IsStep x map a i
+  pub all : (a : PieceAt) (i : Implication) → IsStep x map a i → Contains steps i
 
 -- it is of the second type, the value of an entry whose key is of the first
 pub record IsValueIn (x : Sources) (n : ℕ) (from : Option PieceAt) (key m : Link) (a : PieceAt) : Type 0 where
@@ -191,6 +238,13 @@ pub record IsStateAfter (x : Sources) (ids : List Link) (st : State) : Type 0 wh
 abbrev pub IsStateOf : Sources → List Link → Option State → Type 0
 IsStateOf x ids None = (m : Link) → Contains ids m → HasNoRule x m
 IsStateOf x ids (Some st) = IsStateAfter x ids st
+
+-- The state after one link more in the rule.
+pub record IsNarrowed (x : Sources) (st : State) (m : Link) (new : State) : Type 0 where
+  pub number : new.number ≡ st.number
+  pub rule : new.rule ≡ st.rule
+  pub inside : new.is_inside ≡ st.is_inside
+  pub found : (ids : List Link) → IsFoundAfter x st ids → IsFoundAfter x new (ids ++ m ∷ [])
 
 -- the link begins with this state
 pub record IsStarted (x : Sources) (m : Link) (st : State) : Type 0 where

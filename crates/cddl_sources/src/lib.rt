@@ -12,6 +12,7 @@ mod place;
 mod push;
 mod sources;
 mod span;
+mod spliced;
 mod walk;
 
 pub use crate::place::Place;

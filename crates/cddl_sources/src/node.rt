@@ -1,4 +1,5 @@
-//! What stands in the text of a rule: a type, a word that is a key, or an entry of a group, with the node of the tree that it is.
+//! What stands in the text of a rule: a type, a word that is a key, or an entry or a member of a group, with the node of the tree that
+//! it is.
 
 ghost use Rattle.std.specs.Prelude.{◌≡◌};
 ghost use Rattle.cddl_token.specs.declared.Token.{Token};
@@ -51,6 +52,8 @@ pub(crate) enum Node<'t> {
     Word(Leaf),
     /// The type of the value in an entry that has this key, with what is round the map's group.
     Value(AroundNode, &'t MemberKey, &'t Types),
+    /// An entry without a key, with what is round its group.
+    Member(AroundNode, &'t Types),
     /// An entry of an array, of a group in parentheses, or of a rule as a group.
     Entry(EntryNode<'t>),
 }

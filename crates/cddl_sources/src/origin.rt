@@ -10,7 +10,7 @@ ghost use Rattle.cddl_token.specs.declared.Token.{Token};
 ghost use Rattle.tree_nodes.specs.View.{token_of, view_type1, view_types, view_value};
 ghost use Rattle.tree_nodes.specs.declared.tree.Leaf.{Leaf as ALeaf};
 ghost use Rattle.cddl_sources.specs.Origins.{AreRead, AreRound, AreRoundIt, IsKeyOf, IsNumberOf, MayBeIn, MayBeOf};
-ghost use Rattle.cddl_sources.specs.Pieces.{name_there};
+ghost use Rattle.cddl_sources.specs.Pieces.{name_of_types, name_there};
 ghost use Rattle.cddl_sources.specs.Walk.{view_around, view_node};
 
 use crate::names::lone_name;
@@ -80,6 +80,7 @@ fn key_origin<'s>(
         Node::Operand(_) => Ok(None),
         Node::Literal(_) => Ok(None),
         Node::Word(_) => Ok(None),
+        Node::Member(_, _) => Ok(None),
         Node::Entry(_) => Ok(None),
     }
 }
@@ -99,16 +100,18 @@ fn entry_at(node: Node<'_>) -> Option<EntryAt>
         Node::Literal(_) => None,
         Node::Word(_) => None,
         Node::Value(_, _, _) => None,
+        Node::Member(_, _) => None,
     }
 }
 
-// What is round the group of an entry, or the map's group in which a value is.
+// What is round the group of an entry or of a member, or the map's group in which a value is.
 fn around_at(tree: &Tree<'_>, node: Node<'_>) -> Option<Span>
     ensures { AreRoundIt (view_node (token_of tree.now) node.entry) result }
 {
     match node {
         Node::Entry(entry) => around_span(tree, entry.around),
         Node::Value(around, _, _) => around_span(tree, around),
+        Node::Member(around, _) => around_span(tree, around),
         Node::Choice(_) => None,
         Node::Operation(_) => None,
         Node::Operand(_) => None,
@@ -127,7 +130,7 @@ fn around_span(tree: &Tree<'_>, around: AroundNode) -> Option<Span>
     }
 }
 
-// The number of the name that an entry is, if it is one alone.
+// The number of the name that an entry or a member is, if it is one alone.
 fn node_name<'s>(
     terms: &mut Terms<'s>,
     tree: &Tree<'s>,
@@ -136,22 +139,34 @@ fn node_name<'s>(
     ensures grows { Grows terms.old terms.new }
     ensures name { IfOk result (λ o. IsNumberOf terms.new (name_there (view_node (token_of tree.now) node.entry)) o) }
 {
-    let Node::Entry(
-        EntryNode {
-            inner: InnerNode::Types(types),
-            ..
-        },
-    ) = node
-    else {
-        return Ok(None);
-    };
+    match node {
+        Node::Member(_, types) => types_name(terms, tree, types),
+        Node::Entry(
+            EntryNode {
+                inner: InnerNode::Types(types),
+                ..
+            },
+        ) => types_name(terms, tree, types),
+        _ => Ok(None),
+    }
+}
+
+// The number of the name that a type is, if it is one alone.
+fn types_name<'s>(
+    terms: &mut Terms<'s>,
+    tree: &Tree<'s>,
+    types: &Types,
+) -> Result<Option<u32>, NoRoom>
+    ensures grows { Grows terms.old terms.new }
+    ensures name { IfOk result (λ o. IsNumberOf terms.new (name_of_types (view_types (token_of tree.now) types.now)) o) }
+{
     match lone_name(types) {
         Some(leaf) => Ok(Some(terms.add_text(text_at(tree, leaf))?)),
         None => Ok(None),
     }
 }
 
-// The row of a type, or the text of a word; nothing for an entry.
+// The row of a type, or the text of a word; nothing for an entry or a member, which may be a group.
 fn node_origin<'s>(
     terms: &mut Terms<'s>,
     tree: &Tree<'s>,
@@ -167,6 +182,7 @@ fn node_origin<'s>(
         Node::Literal(value) => Ok(Some(TypeOrigin::Row(read_literal(terms, tree, value)?))),
         Node::Word(leaf) => Ok(Some(TypeOrigin::Word(terms.add_text(text_at(tree, leaf))?))),
         Node::Value(_, _, types) => Ok(Some(TypeOrigin::Row(read_types(terms, tree, types)?))),
+        Node::Member(_, _) => Ok(None),
         Node::Entry(_) => Ok(None),
     }
 }

@@ -1,4 +1,5 @@
-//! A type in the text, a word that is a key, or an entry of a group, with what a type of the table is of that it is.
+//! A type in the text, a word that is a key, or an entry of a group or a member of one, with what a type of the table is of that it
+//! is.
 
 use crate::span::Span;
 use table_making::TypeOrigin;
@@ -17,16 +18,16 @@ pub(crate) struct EntryAt {
 pub(crate) struct PieceAt {
     // The place of its rule in the list of rules, from 0.
     pub(crate) rule: usize,
-    // What it is of, unless it is an entry.
+    // What it is of, unless it is an entry or a member.
     pub(crate) origin: Option<TypeOrigin>,
     // What its key is of, where it is the type of the value in an entry.
     pub(crate) key: Option<TypeOrigin>,
-    // The group of which it is an entry, or the map's group in which it is a value, from its opening to its closing bracket;
-    // nothing where that is the body of a rule.
+    // The group of which it is an entry or a member, or the map's group in which it is a value, from its opening to its closing
+    // bracket; nothing where that is the body of a rule.
     pub(crate) around: Option<Span>,
     // Where it stands in its group, where it is an entry.
     pub(crate) entry: Option<EntryAt>,
-    // The number of the name that it is, where it is an entry and one name alone.
+    // The number of the name that it is, where it is an entry or a member, and one name alone.
     pub(crate) name: Option<u32>,
     pub(crate) span: Span,
 }

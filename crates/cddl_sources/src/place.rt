@@ -1,6 +1,6 @@
 //! Where a type of the table stands in the text, by what led to it.
 
-ghost use Rattle.std.specs.Prelude.{◌≡◌, ◌↔◌, ℕ, ◌++◌, [], ◌∷◌, Contains, IfNone, IfSome, IsTrue, List, None, Option, Some, false, slice_get};
+ghost use Rattle.std.specs.Prelude.{◌≡◌, ◌↔◌, ℕ, ◌++◌, [], ◌∷◌, Contains, IfNone, IfOk, IfSome, IsTrue, List, None, Option, Some, false, slice_get};
 ghost use Rattle.cddl_language.specs.Reading.{rules_of};
 ghost use Rattle.table_making.specs.Basis.{Sense};
 ghost use Rattle.table_making.specs.Nodes.{IsNameOfType};
@@ -8,12 +8,13 @@ ghost use Rattle.table_nodes.specs.declared.table.Table.{Table};
 ghost use Rattle.type_links.specs.declared.link.Link.{Link as ALink};
 ghost use Rattle.cddl_sources.specs.Places.{IsOfNoRule, IsPlace};
 ghost use Rattle.cddl_sources.specs.Sources.{AreSources};
-ghost use Rattle.cddl_sources.specs.States.{AreNoPairIn, ArePairIn, HasNoRule, HasNumber, IsAlternative, IsEntryNamed, IsEntryOf, IsEntryThere, IsFoundAfter, IsFrom, IsInside, IsOfOrigin, IsPlacedIn, IsRuleIn, IsStarted, IsStateAfter, IsStateOf, IsTold, IsTypeIn, IsValueFrom, IsValueIn, LeadsIn, count_in, number_at, origin_at};
+ghost use Rattle.cddl_sources.specs.States.{AreNoPairIn, ArePairIn, HasNoRule, HasNumber, AreSplicedFrom, IsAlternative, IsBetween, IsEntryNamed, IsEntryOf, IsEntryThere, IsFoundAfter, IsFrom, IsInside, IsNarrowed, IsOfOrigin, IsPlacedIn, IsRuleIn, IsStarted, IsStateAfter, IsStateOf, IsTold, IsTypeIn, IsValueFrom, IsValueIn, LeadsIn, count_in, number_at, origin_at};
 ghost use Rattle.cddl_sources.specs.declared.piece.PieceAt.{PieceAt as Piece};
 
 use crate::piece::{EntryAt, PieceAt};
 use crate::sources::Sources;
 use crate::span::Span;
+use std::alloc::{AllocError, Global};
 use table_making::TypeOrigin;
 use type_links::Link;
 
@@ -59,20 +60,33 @@ impl Sources {
     /// The rule is the one of which the last is an instance that is an instance of a rule of the text, so a name of the prelude
     /// stands where it is asked for. From there on each type narrows it: to the first place in the rules of that name that is of
     /// this type, within the place of the one found before. Where the key of an entry comes right before the type of its value, it
-    /// is that entry's, in the map whose place was found before, and not of one within it. An alternative of a group and an entry
-    /// of it lead to this entry, where the place found before is that of the array or of the parentheses round the group, or is a
-    /// name that is an entry by itself: then it stands in the rules of that name. Nothing is told where none is an instance of a
-    /// rule of the text.
+    /// is that entry's, in the map whose place was found before, and not of one within it: it stands in the map, or in a rule to
+    /// which names lead that are entries there. An alternative of a group and an entry of it lead to this entry, where the place
+    /// found before is that of the array or of the parentheses round the group, or is a name that is an entry by itself: then it
+    /// stands in the rules of that name. Nothing is told where none is an instance of a rule of the text.
     ///
     /// It takes time in proportion to the types and the entries in the text for each of these.
-    pub fn place(&self, chain: &[Link]) -> Option<Place>
-        ensures some { IfSome result (λ p. (s : Sense) (table : Table) (known : AreSources s table self.now) → IsPlace (rules_of s.tree) (IsNameOfType s known.terms known.nodes) chain.now p) }
-        ensures none { IfNone result ((s : Sense) (table : Table) (known : AreSources s table self.now) → (m : ALink) → Contains chain.now m → IsOfNoRule (rules_of s.tree) (IsNameOfType s known.terms known.nodes) m) }
+    ///
+    /// # Errors
+    ///
+    /// `AllocError` where memory was refused.
+    pub fn place(&self, alloc: Global, chain: &[Link]) -> Result<Option<Place>, AllocError>
+        ensures some { IfOk result (λ o. IfSome o (λ p. (s : Sense) (table : Table) (known : AreSources s table self.now) → IsPlace (rules_of s.tree) (IsNameOfType s known.terms known.nodes) chain.now p)) }
+        ensures none { IfOk result (λ o. IfNone o ((s : Sense) (table : Table) (known : AreSources s table self.now) → (m : ALink) → Contains chain.now m → IsOfNoRule (rules_of s.tree) (IsNameOfType s known.terms known.nodes) m)) }
     {
         let mut state = None;
         for link in chain {
-            state = self.step(state, *link);
+            let new = self.step(alloc, state, *link)?;
+            state = new;
         }
+        Ok(self.told_last(state))
+    }
+
+    // The place that the last state tells, if there is one.
+    fn told_last(&self, state: Option<State>) -> Option<Place>
+        ensures some { IfSome result (λ p. (chain : List ALink) (s : Sense) (table : Table) (known : AreSources s table self.now) → IsStateOf self.now chain state → IsPlace (rules_of s.tree) (IsNameOfType s known.terms known.nodes) chain p) }
+        ensures none { IfNone result ((chain : List ALink) (s : Sense) (table : Table) (known : AreSources s table self.now) → IsStateOf self.now chain state → (m : ALink) → Contains chain m → IsOfNoRule (rules_of s.tree) (IsNameOfType s known.terms known.nodes) m) }
+    {
         match state {
             Some(state) => self.told(state, self.last_found(state)),
             None => None,
@@ -103,14 +117,22 @@ impl Sources {
     }
 
     // One link further.
-    fn step(&self, state: Option<State>, link: Link) -> Option<State>
-        ensures { (ids : List ALink) → IsStateOf self.now ids state → IsStateOf self.now (ids ++ link ∷ []) result }
+    fn step(
+        &self,
+        alloc: Global,
+        state: Option<State>,
+        link: Link,
+    ) -> Result<Option<State>, AllocError>
+        ensures { IfOk result (λ new. (ids : List ALink) → IsStateOf self.now ids state → IsStateOf self.now (ids ++ link ∷ []) new) }
     {
         match self.started(link) {
-            Some(new) => Some(new),
+            Some(new) => Ok(Some(new)),
             None => match state {
-                Some(state) => Some(self.narrowed(state, link)),
-                None => None,
+                Some(state) => {
+                    let new = self.narrowed(alloc, state, link)?;
+                    Ok(Some(new))
+                }
+                None => Ok(None),
             },
         }
     }
@@ -166,53 +188,54 @@ impl Sources {
     }
 
     // The state after a link that is to an instance of no rule of the text.
-    fn narrowed(&self, state: State, link: Link) -> State
-        ensures { (ids : List ALink) → HasNoRule self.now link → IsStateAfter self.now ids state → IsStateAfter self.now (ids ++ link ∷ []) result }
+    fn narrowed(&self, alloc: Global, state: State, link: Link) -> Result<State, AllocError>
+        ensures { IfOk result (λ new. (ids : List ALink) → HasNoRule self.now link → IsStateAfter self.now ids state → IsStateAfter self.now (ids ++ link ∷ []) new) }
     {
         if !state.is_inside {
-            return state;
+            return Ok(state);
         }
         match self.origin_of(link) {
-            Some(TypeOrigin::Instance(_)) => outside(state),
-            _ => self.narrowed_to(state, link),
+            Some(TypeOrigin::Instance(_)) => Ok(outside(state)),
+            _ => self.narrowed_to(alloc, state, link),
         }
     }
 
     // The state after a link in the rule.
-    fn narrowed_to(&self, state: State, link: Link) -> State
-        ensures number { result.number ≡ state.number }
-        ensures rule { result.rule ≡ state.rule }
-        ensures inside { result.is_inside ≡ state.is_inside }
-        ensures found { (ids : List ALink) → IsFoundAfter self.now state ids → IsFoundAfter self.now result (ids ++ link ∷ []) }
+    fn narrowed_to(&self, alloc: Global, state: State, link: Link) -> Result<State, AllocError>
+        ensures { IfOk result (IsNarrowed self.now state link) }
     {
         match state.held {
-            Some(first) => self.narrowed_by(state, first, link),
-            None => State {
+            Some(first) => self.narrowed_by(alloc, state, first, link),
+            None => Ok(State {
                 held: Some(link),
                 ..state
-            },
+            }),
         }
     }
 
     // The same, where this link is held back: the two lead somewhere together, or the first of them is followed alone.
-    fn narrowed_by(&self, state: State, first: Link, link: Link) -> State
+    fn narrowed_by(
+        &self,
+        alloc: Global,
+        state: State,
+        first: Link,
+        link: Link,
+    ) -> Result<State, AllocError>
         requires { state.held ≡ Some first }
-        ensures number { result.number ≡ state.number }
-        ensures rule { result.rule ≡ state.rule }
-        ensures inside { result.is_inside ≡ state.is_inside }
-        ensures found { (ids : List ALink) → IsFoundAfter self.now state ids → IsFoundAfter self.now result (ids ++ link ∷ []) }
+        ensures { IfOk result (IsNarrowed self.now state link) }
     {
-        match self.pair_in(state.number, state.found, first, link) {
-            Some(piece) => State {
+        let pair = self.pair_in(alloc, state.number, state.found, first, link)?;
+        match pair {
+            Some(piece) => Ok(State {
                 found: Some(piece),
                 held: None,
                 ..state
-            },
-            None => State {
+            }),
+            None => Ok(State {
                 found: self.found_by(state.number, state.found, first),
                 held: Some(link),
                 ..state
-            },
+            }),
         }
     }
 
@@ -248,18 +271,19 @@ impl Sources {
     // Where two links lead together, within what was found before.
     fn pair_in(
         &self,
+        alloc: Global,
         number: u32,
         found: Option<PieceAt>,
         first: Link,
         link: Link,
-    ) -> Option<PieceAt>
-        ensures some { IfSome result (ArePairIn self.now number found first link) }
-        ensures none { IfNone result ((a : Piece) → ArePairIn self.now number found first link a → ⊥) }
+    ) -> Result<Option<PieceAt>, AllocError>
+        ensures some { IfOk result (λ o. IfSome o (ArePairIn self.now number found first link)) }
+        ensures none { IfOk result (λ o. IfNone o ((a : Piece) → ArePairIn self.now number found first link a → ⊥)) }
     {
         match first {
-            Link::Type(_) => self.value_in(number, found, first, link),
-            Link::Alternative { after } => self.entry_after(number, found, after, link),
-            Link::Entry { .. } => None,
+            Link::Type(_) => self.value_in(alloc, number, found, first, link),
+            Link::Alternative { after } => Ok(self.entry_after(number, found, after, link)),
+            Link::Entry { .. } => Ok(None),
         }
     }
 
@@ -284,17 +308,35 @@ impl Sources {
     // The first place of the value's type in an entry that has these types as its key and as its value.
     fn value_in(
         &self,
+        alloc: Global,
         number: u32,
         found: Option<PieceAt>,
         key: Link,
         link: Link,
+    ) -> Result<Option<PieceAt>, AllocError>
+        ensures some { IfOk result (λ o. IfSome o (IsValueIn self.now number found key link)) }
+        ensures none { IfOk result (λ o. IfNone o ((a : Piece) → IsValueIn self.now number found key link a → ⊥)) }
+    {
+        let names = self.spliced_from(alloc, found)?;
+        Ok(self.value_by(number, found, &names, key, link))
+    }
+
+    // The same, by the names of the groups whose entries are the map's.
+    fn value_by(
+        &self,
+        number: u32,
+        found: Option<PieceAt>,
+        names: &[bool],
+        key: Link,
+        link: Link,
     ) -> Option<PieceAt>
+        requires { AreSplicedFrom self.now found names.now }
         ensures some { IfSome result (IsValueIn self.now number found key link) }
         ensures none { IfNone result ((a : Piece) → IsValueIn self.now number found key link a → ⊥) }
     {
         let key = self.origin_of(key)?;
         let origin = self.origin_of(link)?;
-        self.first_value(number, found, key, origin)
+        self.first_value(number, found, names, key, origin)
     }
 
     // The place of an entry of the group that what was found before is, in its brackets or by its name.
@@ -365,14 +407,16 @@ impl Sources {
         &self,
         number: u32,
         found: Option<PieceAt>,
+        names: &[bool],
         key: TypeOrigin,
         origin: TypeOrigin,
     ) -> Option<PieceAt>
+        requires { AreSplicedFrom self.now found names.now }
         ensures some { IfSome result (λ a. IsOfOrigin self.now origin a × IsValueFrom self.now number found a × (a.key ≡ Some key)) }
         ensures none { IfNone result ((a : Piece) → IsOfOrigin self.now origin a → IsValueFrom self.now number found a → a.key ≡ Some key → ⊥) }
     {
         for piece in &self.pieces {
-            if is_value(*piece, key, origin) && self.is_value_from(*piece, number, found) {
+            if is_value(*piece, key, origin) && self.is_value_from(*piece, number, found, names) {
                 return Some(*piece);
             }
         }
@@ -420,12 +464,20 @@ impl Sources {
         }
     }
 
-    // Whether the value is in an entry of the map that was found before, or in a rule with this number.
-    fn is_value_from(&self, piece: PieceAt, number: u32, found: Option<PieceAt>) -> bool
+    // Whether the value is in an entry of the map that was found before, of whose groups these are the names, or in a rule with this
+    // number.
+    fn is_value_from(
+        &self,
+        piece: PieceAt,
+        number: u32,
+        found: Option<PieceAt>,
+        names: &[bool],
+    ) -> bool
+        requires { AreSplicedFrom self.now found names.now }
         ensures is { IsTrue result ↔ IsValueFrom self.now number found piece }
     {
         match found {
-            Some(map) => is_in_map(map, piece),
+            Some(map) => is_between(map, piece) || self.is_flagged(piece, names),
             None => self.is_named(piece.rule, number),
         }
     }
@@ -450,11 +502,11 @@ fn is_inside(outer: PieceAt, piece: PieceAt) -> bool
         && piece.span.end <= outer.span.end
 }
 
-// Whether the value is in an entry of the map.
-fn is_in_map(map: PieceAt, piece: PieceAt) -> bool
-    ensures { IsTrue result ↔ ((piece.rule ≡ map.rule) × (piece.around ≡ Some map.span)) }
+// Whether its group has the ends of the other round it.
+pub(crate) fn is_between(outer: PieceAt, piece: PieceAt) -> bool
+    ensures { IsTrue result ↔ IsBetween outer piece }
 {
-    piece.rule == map.rule && is_round(piece, Some(map.span))
+    piece.rule == outer.rule && is_round(piece, Some(outer.span))
 }
 
 // Whether the piece has this round its group.

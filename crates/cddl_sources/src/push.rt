@@ -3,7 +3,7 @@
 ghost use Rattle.std.specs.Prelude.{OnOk, [], ◌∷◌};
 ghost use Rattle.tree_nodes.specs.Syntax.Syntax as S;
 ghost use Rattle.tree_nodes.specs.View.{view_key, view_type1, view_type2, view_types, view_value};
-ghost use Rattle.cddl_sources.specs.Pieces.{a_type, a_value, a_word, an_entry, key_piece, operand};
+ghost use Rattle.cddl_sources.specs.Pieces.{a_member, a_type, a_value, a_word, an_entry, key_piece, operand};
 ghost use Rattle.cddl_sources.specs.Walk.{Adds, view_around, view_inner, view_node};
 
 use crate::node::{AroundNode, EntryNode, Found, Node};
@@ -70,6 +70,17 @@ pub(crate) fn push_value<'t>(
     ensures { OnOk result (Adds found.old.items found.new.items rule (λ read. a_value (view_around read around) (key_piece (view_key read key.now)) (view_types read types.now) ∷ [])) }
 {
     push(Node::Value(around, key, types), rule, found)
+}
+
+pub(crate) fn push_member<'t>(
+    around: AroundNode,
+    types: &'t Types,
+    rule: usize,
+    found: &mut Vec<Found<'t>>,
+) -> Result<(), AllocError>
+    ensures { OnOk result (Adds found.old.items found.new.items rule (λ read. a_member (view_around read around) (view_types read types.now) ∷ [])) }
+{
+    push(Node::Member(around, types), rule, found)
 }
 
 pub(crate) fn push_entry<'t>(

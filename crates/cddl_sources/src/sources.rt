@@ -47,6 +47,8 @@ pub struct Sources {
     pub(crate) origins: Vec<TypeOrigin>,
     // The number of the name of each instance.
     pub(crate) numbers: Vec<Option<u32>>,
+    // The numbers of all names are below this.
+    pub(crate) names: usize,
     pub(crate) rules: Vec<RuleAt>,
     pub(crate) pieces: Vec<PieceAt>,
 }
@@ -100,6 +102,7 @@ fn sources_of<'s>(
     Ok(Sources {
         origins,
         numbers,
+        names: copy.text_count(),
         rules,
         pieces,
     })

@@ -38,6 +38,7 @@ pub(crate) fn node_span(tree: &Tree<'_>, node: Node<'_>) -> Span
         },
         Node::Word(leaf) => word_span(tree, leaf),
         Node::Value(_, _, types) => bare_span(tree, types),
+        Node::Member(_, types) => bare_span(tree, types),
         Node::Entry(node) => inner_span(tree, node.inner),
     }
 }

@@ -10,7 +10,9 @@ ghost use Rattle.cddl_sources.specs.Walk.{Adds, entry_pieces, further_pieces, vi
 
 use crate::entries::{add_body, add_entries_of, add_lone};
 use crate::node::{AroundNode, Found, InnerNode};
-use crate::push::{push_choice, push_literal, push_operand, push_operation, push_value, push_word};
+use crate::push::{
+    push_choice, push_literal, push_member, push_operand, push_operation, push_value, push_word,
+};
 use std::alloc::{AllocError, Global};
 use tree_nodes::{
     Entry, Further, GenericArg, Group, GrpEnt, MemberKey, Ref, Rule, Tree, Type1, Type2, Types,
@@ -36,6 +38,7 @@ fn add_rule<'t>(node: &'t Rule, rule: usize, found: &mut Vec<Found<'t>>) -> Resu
     match node {
         Rule::TypeRule { types, .. } => {
             add_lone(InnerNode::Types(types), rule, found)?;
+            push_member(AroundNode::Rule, types, rule, found)?;
             add_types(types, rule, found)
         }
         Rule::GroupRule { grpent, .. } => {
@@ -219,7 +222,10 @@ fn add_grpent<'t>(
     ensures { OnOk result (Adds found.old.items found.new.items rule (λ read. in_entry (view_around read around) (view_grpent read grpent.now))) }
 {
     match grpent {
-        GrpEnt::Typed { types, .. } => add_types(types, rule, found),
+        GrpEnt::Typed { types, .. } => {
+            push_member(around, types, rule, found)?;
+            add_types(types, rule, found)
+        }
         GrpEnt::Keyed { key, types, .. } => {
             add_key(key, rule, found)?;
             push_value(around, key, types, rule, found)?;

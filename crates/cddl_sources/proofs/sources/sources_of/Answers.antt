@@ -1,4 +1,5 @@
-use Rattle.std.proofs.Common.{map, refl, ap, ◌∙◌}
+use Rattle.std.proofs.Common.{ℕ, ◌<◌, map, refl, ap, subst, sym, ◌∙◌}
+use Rattle.lists.proofs.Lemmas.{within}
 use Rattle.cddl_sources.proofs.Growing.{grown}
 use Rattle.cddl_sources.proofs.Reading.{rules_kept}
 use Rattle.cddl_sources.specs.States.{name_number}
@@ -11,6 +12,7 @@ returns c = record {
   distinct = c.equal_numbers.ensures.table.texts;
   one_term = λ n a b h k. (c.equal_numbers.ensures.term n n a b h k).0 refl;
   one_row = λ n m a h k. (c.equal_numbers.ensures.term n m a a h k).1 refl;
+  names = λ n y e. subst (λ (m : ℕ). n < m) (sym c.text_count.ensures.value) (within _ n y e);
   origins = refl;
   numbers = c.in_ok-numbers.ensures ∙ ap (map (name_number c.args.findings.now.terms.rows)) c.deref.ensures.value;
   rules = rules_kept _ _ _ _ c.in_ok-pieces.ensures.grows c.in_ok-rules.ensures.rules;

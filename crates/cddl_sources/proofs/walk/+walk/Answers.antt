@@ -104,9 +104,9 @@ pub add_entries-returns : goal.add_entries-returns
 add_entries-returns t c =
     continues_last Entry (entry_pieces c.args.around) _ _ _ _ _ _ c.loop-entry-test.false c.deref-entry-items.ensures.value c.loop-entry.invariant
 
-pub add_grpent-returns-in-Typed : goal.add_grpent-returns-in-Typed
-add_grpent-returns-in-Typed t c =
-    on_ok c.add_types.result _ _ (adds_as _ (λ read. typed_pieces read (view_around read c.args.around) _ c.in-Typed.occur c.in-Typed.types c.in-Typed.is)) c.add_types.ensures
+pub add_grpent-returns-in_ok-push_member-in-Typed : goal.add_grpent-returns-in_ok-push_member-in-Typed
+add_grpent-returns-in_ok-push_member-in-Typed t c =
+    on_ok c.add_types.result _ _ (λ h. adds_as _ (λ read. typed_pieces read (view_around read c.args.around) _ c.in-Typed.occur c.in-Typed.types c.in-Typed.is) (adds_both c.in_ok-push_member-in-Typed.ensures h)) c.add_types.ensures
 
 pub add_grpent-returns-in_ok-push_value-in-Keyed : goal.add_grpent-returns-in_ok-push_value-in-Keyed
 add_grpent-returns-in_ok-push_value-in-Keyed t c =

@@ -2,7 +2,7 @@ use Rattle.std.proofs.Common.{◌≡◌, true, false, Some, ap, sym, subst, ◌�
 use Rattle.std.proofs.lemmas.Grind.{common_steps}
 use Rattle.cddl_sources.specs.States.{IsStateAfter}
 use Rattle.cddl_sources.specs.declared.place.State.{State}
-use Rattle.cddl_sources.proofs.Stepping.{gone_by, gone_in, gone_out}
+use Rattle.cddl_sources.proofs.Stepping.{gone_by, gone_in, gone_out, ok_then}
 use Rattle.cddl_sources.proofs.sources.Sources.narrowed.Goals as goal
 
 pub returns-then-not-state : goal.returns-then-not-state
@@ -16,4 +16,4 @@ returns-in-Some-Instance c = λ ids none h. subst (λ (new : State). IsStateAfte
 pub returns-in_default : goal.returns-in_default
 returns-in_default c =
     let e : c.args.state.is_inside ≡ true = first_of (search rules, grind (arith, common_steps), cc) in
-    λ ids none h. gone_in c.args.self.now c.args.link ids c.args.state c.narrowed_to.result e none h c.narrowed_to.ensures.number c.narrowed_to.ensures.rule c.narrowed_to.ensures.inside c.narrowed_to.ensures.found
+    ok_then c.narrowed_to.result _ _ (λ new k ids none h. gone_in c.args.self.now c.args.link ids c.args.state new e none h k.number k.rule k.inside k.found) c.narrowed_to.ensures

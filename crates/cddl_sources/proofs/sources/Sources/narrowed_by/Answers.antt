@@ -1,17 +1,34 @@
-use Rattle.std.proofs.Common.{◌∷◌, Option, None, Some, sym, subst}
+use Rattle.std.proofs.Common.{◌∷◌, IfNone, IfSome, Option, None, Some, refl, sym, subst}
 use Rattle.type_links.specs.declared.link.Link.{Link}
-use Rattle.cddl_sources.specs.States.{LeadsIn, to_pair, with_held}
+use Rattle.cddl_sources.specs.States.{AreNoPairIn, ArePairIn, LeadsIn, to_pair, with_held}
+use Rattle.cddl_sources.specs.declared.piece.PieceAt.{PieceAt}
 use Rattle.cddl_sources.proofs.Stepping.{found_after}
 use Rattle.cddl_sources.proofs.sources.Sources.narrowed_by.Goals as goal
 
-pub returns-in-Some-clause-found : goal.returns-in-Some-clause-found
-returns-in-Some-clause-found c =
+pub returns-in-Some : goal.returns-in-Some
+returns-in-Some c =
+    let x = c.args.self.now in
     let st = c.args.state in
-    found_after c.args.self.now c.args.link st (Some c.in-Some.piece) None
-    (λ rest to l. subst (λ (o : Option Link). LeadsIn c.args.self.now st.number st.found (with_held o (c.args.link ∷ rest)) to) (sym c.requires) (to_pair c.in-Some.ensures.some l))
+    let pair : ArePairIn x st.number st.found c.args.first c.args.link c.in-Some.piece = subst (λ (o : Option PieceAt). IfSome o (ArePairIn x st.number st.found c.args.first c.args.link)) c.in-Some.is c.in_ok-pair.ensures.some in
+    record {
+      number = refl;
+      rule = refl;
+      inside = refl;
+      found =
+          found_after x c.args.link st (Some c.in-Some.piece) None
+          (λ rest to l. subst (λ (o : Option Link). LeadsIn x st.number st.found (with_held o (c.args.link ∷ rest)) to) (sym c.requires) (to_pair pair l));
+    }
 
-pub returns-in-None-clause-found : goal.returns-in-None-clause-found
-returns-in-None-clause-found c =
+pub returns-in-None : goal.returns-in-None
+returns-in-None c =
+    let x = c.args.self.now in
     let st = c.args.state in
-    found_after c.args.self.now c.args.link st c.found_by.result (Some c.args.link)
-    (λ rest to l. subst (λ (o : Option Link). LeadsIn c.args.self.now st.number st.found (with_held o (c.args.link ∷ rest)) to) (sym c.requires) (c.found_by.ensures (c.args.link ∷ rest) to c.in-None.ensures.none l))
+    let none : (a : PieceAt) → ArePairIn x st.number st.found c.args.first c.args.link a → ⊥ = subst (λ (o : Option PieceAt). IfNone o ((a : PieceAt) → ArePairIn x st.number st.found c.args.first c.args.link a → ⊥)) c.in-None.is c.in_ok-pair.ensures.none in
+    record {
+      number = refl;
+      rule = refl;
+      inside = refl;
+      found =
+          found_after x c.args.link st c.found_by.result (Some c.args.link)
+          (λ rest to l. subst (λ (o : Option Link). LeadsIn x st.number st.found (with_held o (c.args.link ∷ rest)) to) (sym c.requires) (c.found_by.ensures (c.args.link ∷ rest) to none l));
+    }

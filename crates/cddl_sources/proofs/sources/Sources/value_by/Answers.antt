@@ -1,7 +1,7 @@
 use Rattle.std.proofs.Common.{sym, ◌∙◌}
 use Rattle.lists.proofs.Lemmas.{some_none}
 use Rattle.cddl_sources.proofs.Stepping.{any_value, if_none, no_value, none_then, some_then}
-use Rattle.cddl_sources.proofs.sources.Sources.value_in.Goals as goal
+use Rattle.cddl_sources.proofs.sources.Sources.value_by.Goals as goal
 
 pub returns-in_err-key-clause-none : goal.returns-in_err-key-clause-none
 returns-in_err-key-clause-none c = if_none c.from_residual.result _ (λ a h. some_none (sym h.key_there ∙ sym c.in_err-key.ensures))
