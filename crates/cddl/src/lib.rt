@@ -20,9 +20,7 @@ pub use cbor_read::{
 pub use cddl_check::{Spec, check, trees_are_of_tokens};
 pub use cddl_match::{Cells, Machine, Verdict, verdict};
 pub use cddl_table::{compile, read_specification};
-pub use cddl_token::{
-    Code, Kind, Literal, Position, Refusal, Token, position_of, tokens, value,
-};
+pub use cddl_token::{Code, Kind, Literal, Position, Refusal, Token, position_of, tokens, value};
 pub use cddl_tree::{NESTING_LIMIT, Tree, discard, parse};
 pub use seq_run::{
     Cause, End, Mode, OwnedSession, RunFault, Session, State, Step, Stopped, end_line, run,

@@ -32,11 +32,7 @@ fn plain_items(alloc: Global, items: Vec<Sound>) -> Result<Vec<Item>, AllocError
 /// # Errors
 ///
 /// `AllocError` where memory was refused.
-pub fn held_in(
-    alloc: Global,
-    content: Content,
-    bytes: &[u8],
-) -> Result<Option<Item>, AllocError>
+pub fn held_in(alloc: Global, content: Content, bytes: &[u8]) -> Result<Option<Item>, AllocError>
     ensures { IfOk result (λ held. MatchOption held ((y : Value) → Holds (content_view content) bytes.now y → ⊥) (λ item. Holds (content_view content) bytes.now (view item))) }
 {
     match content {

@@ -9,13 +9,19 @@ pub enum Cause {
     /// The item at the place, or the number of the tag or simple value there, is not of the last type.
     Value,
     /// In the array at the place no item is left for a member of this type. The last type is the array's.
-    Missing { member: TypeId },
+    Missing {
+        member: TypeId,
+    },
     /// The member of an array that stands at the place is too much. The last type is the array's.
     TooMuch,
     /// The key at the place belongs to no entry of an alternative. The last type is the map's.
     Stray,
     /// So many pairs of the map at the place belong to the entry with this key type, and more are wanted.
-    Few { key: TypeId, count: u64, least: u64 },
+    Few {
+        key: TypeId,
+        count: u64,
+        least: u64,
+    },
     /// The same, and fewer are wanted. `later` says whether an entry after that one has the same key type.
     Many {
         key: TypeId,
@@ -24,7 +30,9 @@ pub enum Cause {
         later: bool,
     },
     /// The byte string at the place holds no item, or no sequence. The last type is the control's.
-    NothingHeld { content: Content },
+    NothingHeld {
+        content: Content,
+    },
 }
 
 /// A byte string that holds what a type asks about.

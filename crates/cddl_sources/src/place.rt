@@ -536,9 +536,7 @@ fn is_there(
 ) -> bool
     ensures { IsTrue result ↔ ((piece.rule ≡ rule) × (piece.around ≡ around) × IsPlacedIn alternative place piece.entry) }
 {
-    piece.rule == rule
-        && is_round(piece, around)
-        && is_placed(piece.entry, alternative, place)
+    piece.rule == rule && is_round(piece, around) && is_placed(piece.entry, alternative, place)
 }
 
 // Whether it is an entry with so many alternatives and so many entries after it.

@@ -69,8 +69,9 @@ fn many_words(
 ) -> Result<String, AllocError>
     ensures { IfOk result (λ words. string_bytes words ≡ many_words count most later written.now) }
 {
-    let mut words =
-        format!(in alloc; "wants at most {most} of the key {written}, and has {count}")?;
+    let mut words = format!(in alloc;
+        "wants at most {most} of the key {written}, and has {count}"
+    )?;
     words.push_str(later_words(later))?;
     Ok(words)
 }

@@ -7,8 +7,8 @@ use cbor_item::Sound;
 use cbor_read::embedded_item;
 use cddl_match::{Cells, Machine, Verdict, held_in, verdict};
 use std::alloc::{AllocError, Global};
-use table_nodes::{Content, Table};
 use table_nodes::flags::flags_of;
+use table_nodes::{Content, Table};
 
 // Whether each group may take no item.
 pub(crate) fn push_flags(alloc: Global, words: &str, out: &mut String) -> Result<(), AllocError> {
