@@ -144,6 +144,6 @@ fn line_of_root(
 ) -> Result<String, AllocError>
     ensures { IfOk result (λ line. IsToldOfRoot root.now item.now reason.now (string_bytes line)) }
 {
-    let found = place_words(alloc, item.item(), &reason.strings, reason.place)?;
-    root_line(alloc, found.as_str(), root)
+    let words = place_words(alloc, item.item(), &reason.strings, reason.place)?;
+    root_line(alloc, words.as_str(), root)
 }
