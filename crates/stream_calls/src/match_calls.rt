@@ -27,7 +27,7 @@ fn push_marks(flags: &[bool], out: &mut String) -> Result<(), AllocError> {
 }
 
 // The greatest rank; or what the root says of an item in so many steps, by calls, or by turns with room for so many questions; or
-// why it says no, in so many reasons; or what a byte string holds.
+// why it says no, in so many reasons.
 pub(crate) fn answer(
     alloc: Global,
     table: &Table,
@@ -48,13 +48,13 @@ pub(crate) fn answer(
             let item = held_of(alloc, words)?;
             push_reasons(alloc, table, &item, number(steps), count(most), out)
         }
-        "held" => push_held(alloc, steps, words, out),
         _ => out.push_str("no such call"),
     }
 }
 
 // What a byte string of these bytes holds, as one item or as a sequence.
-fn push_held(alloc: Global, form: &str, words: &str, out: &mut String) -> Result<(), AllocError> {
+pub(crate) fn push_held(alloc: Global, words: &str, out: &mut String) -> Result<(), AllocError> {
+    let (form, words) = first(words);
     let content = match form {
         "one" => Content::OneItem,
         _ => Content::Sequence,

@@ -33,6 +33,7 @@ impl Tables {
     ) -> Result<(), AllocError> {
         match name {
             "flags" => match_calls::push_flags(self.alloc, words, out),
+            "held" => match_calls::push_held(self.alloc, words, out),
             "types" | "groups" | "ranks" => self.keep(name, words, out),
             _ => self.ask(room, name, words, out),
         }
