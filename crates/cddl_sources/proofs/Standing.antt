@@ -19,7 +19,7 @@ use Rattle.table_nodes.specs.declared.table.Table.{Table as Made}
 use Rattle.type_links.specs.declared.link.Link.{Link}
 use Rattle.type_links.specs.declared.link.Link.TheVariants as L
 use Rattle.cddl_sources.specs.Origins.{AreRound, AreRoundIt, IsKeyOf, IsNumberOf, IsOriginOf, IsPieceAt, MayBeIn, MayBeOf, Stands as IsThere, is_of, may_be_group, no_type, of_type, of_value as of_keyed, of_word as of_token}
-use Rattle.cddl_sources.specs.Pieces.{Around, Piece, a_member, a_type, a_value, a_word, alternatives_of, an_entry, brackets, in_rule, name_of_types, name_there, the_rule, name_of_piece, tokens_of_piece}
+use Rattle.cddl_sources.specs.Pieces.{Around, Piece, a_member, a_type, a_value, a_word, alternatives_of, an_entry, brackets, in_rule, name_there, the_rule, name_of_piece, tokens_of_piece}
 use Rattle.cddl_sources.specs.Places.{AreEnds, AreNoPair, ArePairAt, BeginsWithInstance, IsEntryAt, IsEntryNamed, IsEntryWithin, IsOf, IsOfNoRule, IsPlace, IsShown, IsSpliced, IsTypeAt, IsValueAt, Leads, LeadsTo, Make, Stands, StandsAt, StandsIn, a_piece, another, are_ends, arrives, in_a_rule, in_group, in_map, named, named_in_group, named_in_map, no_rules, of_entry, of_value, one_more, passes, the_body, to_pair, to_type, within}
 use Rattle.cddl_sources.specs.Sources.{AreSources, IsRuleAt}
 use Rattle.cddl_sources.specs.Spans.{IsNameSpan, IsSpan, IsWithin, Spot, body_tokens}
@@ -445,11 +445,11 @@ module _ (s : Sense) (table : Made) (x : Sources) (k : AreSources s table x) whe
 
   -- the names of the groups whose entries are a map's
 
-  member_of : (n : ℕ) (y : Text) (a : PieceAt) → slice_get k.made.more.texts n ≡ Some y → IsMember x n a → (st : IsThere k.made.more (rules_of s.tree) a) → (r : Around) × (t : S.Types) × (st.piece ≡ a_member r t) × (name_of_types t ≡ Some y) × AreRound r a.around
+  member_of : (n : ℕ) (y : Text) (a : PieceAt) → slice_get k.made.more.texts n ≡ Some y → IsMember x n a → (st : IsThere k.made.more (rules_of s.tree) a) → (r : Around) × (t : S.Types) × (st.piece ≡ a_member r t) × AreRound r a.around
   member_of n y a e m st = by st.piece refl st.is.entry st.is.around (sym (name_there_is (name_there st.piece) a.name st.is.name) ∙ ap (text_at k.made.more) m.name ∙ e)
     where
-      by : (p : Piece) → st.piece ≡ p → MayBeIn p a.entry → AreRoundIt p a.around → name_there p ≡ Some y → (r : Around) × (t : S.Types) × (st.piece ≡ a_member r t) × (name_of_types t ≡ Some y) × AreRound r a.around
-      by (a_member r t) is g b f = (r, t, is, f, b)
+      by : (p : Piece) → st.piece ≡ p → MayBeIn p a.entry → AreRoundIt p a.around → name_there p ≡ Some y → (r : Around) × (t : S.Types) × (st.piece ≡ a_member r t) × AreRound r a.around
+      by (a_member r t) is g b f = (r, t, is, b)
       by (an_entry r j i z) is g b f = absurd (some_none (sym g.1 ∙ m.alone))
       by (a_type z) is g b f = cc
       by (a_word w) is g b f = cc
@@ -458,7 +458,7 @@ module _ (s : Sense) (table : Made) (x : Sources) (k : AreSources s table x) whe
   member_stands : (a : PieceAt) (st : IsThere k.made.more (rules_of s.tree) a) (p : Piece) → st.piece ≡ p → (h : Stands (rules_of s.tree) (IsNameOfType s k.terms k.nodes) p (spot a)) × (h.rule ≡ st.rule)
   member_stands a st p e = subst (λ (q : Piece). (h : Stands (rules_of s.tree) (IsNameOfType s k.terms k.nodes) q (spot a)) × (h.rule ≡ st.rule)) e (stands a st, refl)
 
-  body_spliced : (map a : PieceAt) (y : Text) (st : IsThere k.made.more (rules_of s.tree) a) (r : Around) (t : S.Types) → st.piece ≡ a_member r t → name_of_types t ≡ Some y → AreRound r a.around → a.around ≡ None → IsSpliced (rules_of s.tree) (IsNameOfType s k.terms k.nodes) (spot map) (name_in st.rule) → IsSpliced (rules_of s.tree) (IsNameOfType s k.terms k.nodes) (spot map) y
+  body_spliced : (map a : PieceAt) (y : Text) (st : IsThere k.made.more (rules_of s.tree) a) (r : Around) (t : S.Types) → st.piece ≡ a_member r t → (spot a).name ≡ Some y → AreRound r a.around → a.around ≡ None → IsSpliced (rules_of s.tree) (IsNameOfType s k.terms k.nodes) (spot map) (name_in st.rule) → IsSpliced (rules_of s.tree) (IsNameOfType s k.terms k.nodes) (spot map) y
   body_spliced map a y st (brackets o c) t is name round none rest = absurd (some_none (sym round.1 ∙ none))
   body_spliced map a y st the_rule t is name round none rest =
       let h = member_stands a st (a_member the_rule t) is in
@@ -469,16 +469,16 @@ module _ (s : Sense) (table : Made) (x : Sources) (k : AreSources s table x) whe
       let st = k.made.pieces.each a m.contained in
       let w = member_of n y a e m st in
       let h = member_stands a st (a_member w.0 w.1) w.2 in
-      named_in_map h.0 w.3 b.0 (round_ends map w.0 a.around w.4 b.1)
+      named_in_map h.0 (ap (text_at k.made.more) m.name ∙ e) b.0 (round_ends map w.0 a.around w.3 b.1)
   spliced_at map (numbered_in_group {n = n} {m = j} {a = a} known m b g) y e =
       let st = k.made.pieces.each a m.contained in
       let w = member_of n y a e m st in
-      body_spliced map a y st w.0 w.1 w.2 w.3 w.4 b.0 (spliced_at map g (name_in st.rule) (body_name a j st b.1))
+      body_spliced map a y st w.0 w.1 w.2 (ap (text_at k.made.more) m.name ∙ e) w.3 b.0 (spliced_at map g (name_in st.rule) (body_name a j st b.1))
 
-  member_in : (r : Around) (t : S.Types) (at : Spot) (y : Text) → name_of_types t ≡ Some y → (h : Stands (rules_of s.tree) (IsNameOfType s k.terms k.nodes) (a_member r t) at) → (a : PieceAt) × (n : ℕ) × IsMember x n a × (a.rule ≡ at.rule) × AreRound r a.around × (slice_get k.made.more.texts n ≡ Some y)
+  member_in : (r : Around) (t : S.Types) (at : Spot) (y : Text) → at.name ≡ Some y → (h : Stands (rules_of s.tree) (IsNameOfType s k.terms k.nodes) (a_member r t) at) → (a : PieceAt) × (n : ℕ) × IsMember x n a × (a.rule ≡ at.rule) × AreRound r a.around × (slice_get k.made.more.texts n ≡ Some y)
   member_in r t at y name h =
       let w = piece_there (a_member r t) at h in
-      let g : IsNumberOf k.made.more (Some y) w.0.name = subst (λ (o : Option Text). IsNumberOf k.made.more o w.0.name) name w.3.name in
+      let g : IsNumberOf k.made.more (Some y) w.0.name = subst (λ (o : Option Text). IsNumberOf k.made.more o w.0.name) (sym h.name ∙ name) w.3.name in
       (w.0, g.0, record { contained = w.1; alone = w.3.entry; name = g.1 }, ap (λ (z : Spot). z.rule) w.2, w.3.around, g.2)
 
   spliced_in : (map : PieceAt) {y : Text} → IsSpliced (rules_of s.tree) (IsNameOfType s k.terms k.nodes) (spot map) y → (n : ℕ) × (slice_get k.made.more.texts n ≡ Some y) × IsSplicedIn x map n

@@ -5,6 +5,7 @@ use Rattle.cddl_token.specs.declared.Kind.TheVariants.{Name, ParenClose, ParenOp
 use Rattle.tree_nodes.specs.Syntax.Syntax as S
 use Rattle.cddl_language.specs.Language.{TypeName, type, word}
 use Rattle.cddl_language.specs.Reading.{term_of, text_of}
+use Rattle.cddl_language.specs.Sites.{ref_name}
 use Rattle.cddl_language.specs.Terms.{Text}
 
 -- what is round a group: brackets, or a rule of which it is the body
@@ -149,42 +150,6 @@ name_of_piece (a_value a k x) = Some (type (term_of x))
 name_of_piece (a_member a x) = None
 name_of_piece (an_entry a k i e) = None
 
--- The name that stands there alone as an entry, if one does. It may be that of a group.
-
-abbrev pub name_of_ref : S.Ref → Option Text
-name_of_ref (S.name t) = Some (text_of t)
-name_of_ref (S.applied o a c) = None
-
-abbrev pub name_of_type2 : S.Type2 → Option Text
-name_of_type2 (S.typename r) = name_of_ref r
-name_of_type2 (S.literal v) = None
-name_of_type2 (S.parens o t c) = None
-name_of_type2 (S.map_of o g c) = None
-name_of_type2 (S.array_of o g c) = None
-name_of_type2 (S.unwrapped u r) = None
-name_of_type2 (S.choice_of a o g c) = None
-name_of_type2 (S.choice_of_name a r) = None
-name_of_type2 (S.tagged o t c) = None
-name_of_type2 (S.tagged_by o h a p t c) = None
-name_of_type2 (S.simple_by o h c) = None
-name_of_type2 (S.hash t) = None
-
-abbrev pub name_of_type1 : S.Type1 → Option Text
-name_of_type1 (S.one x) = name_of_type2 x
-name_of_type1 (S.operation x o y) = None
-
-abbrev pub name_of_types : S.Types → Option Text
-name_of_types (S.only r) = name_of_type1 r
-name_of_types (S.or t s r) = None
-
-abbrev pub name_there : Piece → Option Text
-name_there (an_entry a k i (of_types t)) = name_of_types t
-name_there (an_entry a k i (of_group o g c)) = None
-name_there (a_type x) = None
-name_there (a_word t) = None
-name_there (a_value a k x) = None
-name_there (a_member a x) = name_of_types x
-
 -- A type without the parentheses round all of it.
 
 abbrev pub inner_or : S.Types → Option S.Types → S.Types
@@ -213,6 +178,38 @@ abbrev mutual
   bare_type2 (S.tagged_by o h a p t c) = S.only (S.one (S.tagged_by o h a p t c))
   bare_type2 (S.simple_by o h c) = S.only (S.one (S.simple_by o h c))
   bare_type2 (S.hash t) = S.only (S.one (S.hash t))
+
+-- The name that stands there alone as an entry, with arguments or without, if one does. It may be that of a group.
+
+abbrev pub name_of_type2 : S.Type2 → Option Text
+name_of_type2 (S.typename r) = Some (ref_name r)
+name_of_type2 (S.literal v) = None
+name_of_type2 (S.parens o t c) = None
+name_of_type2 (S.map_of o g c) = None
+name_of_type2 (S.array_of o g c) = None
+name_of_type2 (S.unwrapped u r) = None
+name_of_type2 (S.choice_of a o g c) = None
+name_of_type2 (S.choice_of_name a r) = None
+name_of_type2 (S.tagged o t c) = None
+name_of_type2 (S.tagged_by o h a p t c) = None
+name_of_type2 (S.simple_by o h c) = None
+name_of_type2 (S.hash t) = None
+
+abbrev pub name_of_type1 : S.Type1 → Option Text
+name_of_type1 (S.one x) = name_of_type2 x
+name_of_type1 (S.operation x o y) = None
+
+abbrev pub name_of_types : S.Types → Option Text
+name_of_types (S.only r) = name_of_type1 r
+name_of_types (S.or t s r) = None
+
+abbrev pub name_there : Piece → Option Text
+name_there (an_entry a k i (of_types t)) = name_of_types (bare_types t)
+name_there (an_entry a k i (of_group o g c)) = None
+name_there (a_type x) = None
+name_there (a_word t) = None
+name_there (a_value a k x) = None
+name_there (a_member a x) = name_of_types (bare_types x)
 
 -- what is told of an entry: its type, or its group in parentheses
 abbrev pub tokens_of_inner : Inner → List S.Lexeme

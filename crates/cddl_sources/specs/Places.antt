@@ -8,7 +8,7 @@ use Rattle.cddl_language.specs.Terms.{Ref, Text, name_of}
 use Rattle.table_nodes.specs.declared.nodes.TypeId.{TypeId}
 use Rattle.type_links.specs.declared.link.Link.{Link}
 use Rattle.type_links.specs.declared.link.Link.TheVariants as L
-use Rattle.cddl_sources.specs.Pieces.{Around, Inner, Piece, a_member, a_value, alternatives_of, an_entry, brackets, in_rule, name_of_piece, name_of_types, name_there, the_rule, tokens_of_piece}
+use Rattle.cddl_sources.specs.Pieces.{Around, Inner, Piece, a_member, a_value, alternatives_of, an_entry, brackets, in_rule, name_of_piece, name_there, the_rule, tokens_of_piece}
 use Rattle.cddl_sources.specs.Spans.{IsNameSpan, IsSpan, IsWithin, Spot, body_tokens}
 use Rattle.cddl_sources.specs.declared.place.Place.{Place}
 use Rattle.cddl_sources.specs.declared.span.Span.{Span}
@@ -58,8 +58,8 @@ module _ (rules : List S.Rule) (names : TypeName → TypeId → Type 0) where
 
   -- The name is that of a group whose entries are the map's: it is a member of the map by itself, or of a group of such a name.
   pub data IsSpliced (map : Spot) : Text → Type 0 where
-    named_in_map : {a : Around} {t : S.Types} {at : Spot} {n : Text} → Stands (a_member a t) at → name_of_types t ≡ Some n → at.rule ≡ map.rule → AreEnds map a → IsSpliced map n
-    named_in_group : {t : S.Types} {at : Spot} {n : Text} → (h : Stands (a_member the_rule t) at) → name_of_types t ≡ Some n → IsSpliced map (name_in h.rule) → IsSpliced map n
+    named_in_map : {a : Around} {t : S.Types} {at : Spot} {n : Text} → Stands (a_member a t) at → at.name ≡ Some n → at.rule ≡ map.rule → AreEnds map a → IsSpliced map n
+    named_in_group : {t : S.Types} {at : Spot} {n : Text} → (h : Stands (a_member the_rule t) at) → at.name ≡ Some n → IsSpliced map (name_in h.rule) → IsSpliced map n
 
   -- There stands the piece, in a group with this round it: in one of the map that the other part of the text is, or any in a rule of
   -- this name, if none is given.

@@ -1,38 +1,46 @@
-//! The name that a type is, if it is one alone, without arguments.
+//! The name that a type is, if it is one alone.
 
 ghost use Rattle.std.specs.Prelude.{◌≡◌, option_map};
-ghost use Rattle.cddl_language.specs.Reading.{text_of};
-ghost use Rattle.cddl_token.specs.declared.Token.{Token};
-ghost use Rattle.tree_nodes.specs.View.{view_ref, view_type1, view_type2, view_types};
-ghost use Rattle.tree_nodes.specs.declared.tree.Leaf.{Leaf as ALeaf};
-ghost use Rattle.cddl_sources.specs.Pieces.{name_of_ref, name_of_type1, name_of_type2, name_of_types};
+ghost use Rattle.cddl_language.specs.Sites.{ref_name};
+ghost use Rattle.tree_nodes.specs.View.{token_of, view_ref, view_type1, view_type2, view_types};
+ghost use Rattle.cddl_sources.specs.Pieces.{bare_types, name_of_type1, name_of_type2, name_of_types};
 
-use tree_nodes::{Leaf, Ref, Type1, Type2, Types};
+use crate::bare::bare_types;
+use crate::origin::text_at;
+use check_terms::opened_name;
+use tree_nodes::{Ref, Tree, Type1, Type2, Types};
 
-pub(crate) fn lone_name(types: &Types) -> Option<Leaf>
-    ensures { (read : ALeaf → Token) → option_map (λ l. text_of (read l)) result ≡ name_of_types (view_types read types.now) }
+// In parentheses or not, with arguments or without.
+pub(crate) fn lone_name<'s>(tree: &Tree<'s>, types: &Types) -> Option<&'s str>
+    ensures { option_map (λ n. n.now) result ≡ name_of_types (bare_types (view_types (token_of tree.now) types.now)) }
+{
+    types_name(tree, bare_types(types))
+}
+
+fn types_name<'s>(tree: &Tree<'s>, types: &Types) -> Option<&'s str>
+    ensures { option_map (λ n. n.now) result ≡ name_of_types (view_types (token_of tree.now) types.now) }
 {
     let Types { first, others } = types;
     match others.last() {
         Some(_) => None,
-        None => type1_name(first),
+        None => type1_name(tree, first),
     }
 }
 
-fn type1_name(type1: &Type1) -> Option<Leaf>
-    ensures { (read : ALeaf → Token) → option_map (λ l. text_of (read l)) result ≡ name_of_type1 (view_type1 read type1.now) }
+fn type1_name<'s>(tree: &Tree<'s>, type1: &Type1) -> Option<&'s str>
+    ensures { option_map (λ n. n.now) result ≡ name_of_type1 (view_type1 (token_of tree.now) type1.now) }
 {
     match type1 {
-        Type1::One(operand) => type2_name(operand),
+        Type1::One(operand) => type2_name(tree, operand),
         Type1::Operation { .. } => None,
     }
 }
 
-fn type2_name(operand: &Type2) -> Option<Leaf>
-    ensures { (read : ALeaf → Token) → option_map (λ l. text_of (read l)) result ≡ name_of_type2 (view_type2 read operand.now) }
+fn type2_name<'s>(tree: &Tree<'s>, operand: &Type2) -> Option<&'s str>
+    ensures { option_map (λ n. n.now) result ≡ name_of_type2 (view_type2 (token_of tree.now) operand.now) }
 {
     match operand {
-        Type2::Typename(name) => ref_name(name),
+        Type2::Typename(name) => Some(ref_name(tree, name)),
         Type2::Literal(_) => None,
         Type2::Parens { .. } => None,
         Type2::MapOf { .. } => None,
@@ -47,11 +55,11 @@ fn type2_name(operand: &Type2) -> Option<Leaf>
     }
 }
 
-fn ref_name(name: &Ref) -> Option<Leaf>
-    ensures { (read : ALeaf → Token) → option_map (λ l. text_of (read l)) result ≡ name_of_ref (view_ref read name.now) }
+fn ref_name<'s>(tree: &Tree<'s>, name: &Ref) -> &'s str
+    ensures { result.now ≡ ref_name (view_ref (token_of tree.now) name.now) }
 {
     match name {
-        Ref::Name(leaf) => Some(*leaf),
-        Ref::Applied { .. } => None,
+        Ref::Name(leaf) => text_at(tree, *leaf),
+        Ref::Applied { opening, .. } => opened_name(text_at(tree, *opening)),
     }
 }

@@ -10,7 +10,7 @@ ghost use Rattle.cddl_token.specs.declared.Token.{Token};
 ghost use Rattle.tree_nodes.specs.View.{token_of, view_type1, view_types, view_value};
 ghost use Rattle.tree_nodes.specs.declared.tree.Leaf.{Leaf as ALeaf};
 ghost use Rattle.cddl_sources.specs.Origins.{AreRead, AreRound, AreRoundIt, IsKeyOf, IsNumberOf, MayBeIn, MayBeOf};
-ghost use Rattle.cddl_sources.specs.Pieces.{name_of_types, name_there};
+ghost use Rattle.cddl_sources.specs.Pieces.{bare_types, name_of_types, name_there};
 ghost use Rattle.cddl_sources.specs.Walk.{view_around, view_node};
 
 use crate::names::lone_name;
@@ -158,10 +158,10 @@ fn types_name<'s>(
     types: &Types,
 ) -> Result<Option<u32>, NoRoom>
     ensures grows { Grows terms.old terms.new }
-    ensures name { IfOk result (λ o. IsNumberOf terms.new (name_of_types (view_types (token_of tree.now) types.now)) o) }
+    ensures name { IfOk result (λ o. IsNumberOf terms.new (name_of_types (bare_types (view_types (token_of tree.now) types.now))) o) }
 {
-    match lone_name(types) {
-        Some(leaf) => Ok(Some(terms.add_text(text_at(tree, leaf))?)),
+    match lone_name(tree, types) {
+        Some(name) => Ok(Some(terms.add_text(name)?)),
         None => Ok(None),
     }
 }
@@ -246,7 +246,7 @@ fn add_leaf<'s>(
 }
 
 // The text of a leaf's token.
-fn text_at<'s>(tree: &Tree<'s>, leaf: Leaf) -> &'s str
+pub(crate) fn text_at<'s>(tree: &Tree<'s>, leaf: Leaf) -> &'s str
     ensures { result.now ≡ text_of (token_of tree.now leaf) }
 {
     tree.token(leaf).text

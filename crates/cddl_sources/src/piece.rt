@@ -27,7 +27,7 @@ pub(crate) struct PieceAt {
     pub(crate) around: Option<Span>,
     // Where it stands in its group, where it is an entry.
     pub(crate) entry: Option<EntryAt>,
-    // The number of the name that it is, where it is an entry or a member, and one name alone.
+    // The number of the name that it is, where it is an entry or a member, and one name alone, with arguments or without.
     pub(crate) name: Option<u32>,
     pub(crate) span: Span,
 }

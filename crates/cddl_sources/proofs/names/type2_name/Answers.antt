@@ -1,39 +1,39 @@
 use Rattle.tree_nodes.proofs.Lemmas.{views}
-use Rattle.std.proofs.Common.{refl}
+use Rattle.std.proofs.Common.{Some, ap, refl}
 use Rattle.cddl_sources.proofs.names.type2_name.Goals as goal
 
 pub returns-in-Typename : goal.returns-in-Typename
-returns-in-Typename c = λ read. simp (c.in-Typename.is, views) (c.ref_name.ensures read)
+returns-in-Typename c = simp (c.in-Typename.is, views) (ap Some c.ref_name.ensures)
 
 pub returns-in-Literal : goal.returns-in-Literal
-returns-in-Literal c = λ read. simp (c.in-Literal.is, views) refl
+returns-in-Literal c = simp (c.in-Literal.is, views) refl
 
 pub returns-in-Parens : goal.returns-in-Parens
-returns-in-Parens c = λ read. simp (c.in-Parens.is, views) refl
+returns-in-Parens c = simp (c.in-Parens.is, views) refl
 
 pub returns-in-MapOf : goal.returns-in-MapOf
-returns-in-MapOf c = λ read. simp (c.in-MapOf.is, views) refl
+returns-in-MapOf c = simp (c.in-MapOf.is, views) refl
 
 pub returns-in-ArrayOf : goal.returns-in-ArrayOf
-returns-in-ArrayOf c = λ read. simp (c.in-ArrayOf.is, views) refl
+returns-in-ArrayOf c = simp (c.in-ArrayOf.is, views) refl
 
 pub returns-in-Unwrapped : goal.returns-in-Unwrapped
-returns-in-Unwrapped c = λ read. simp (c.in-Unwrapped.is, views) refl
+returns-in-Unwrapped c = simp (c.in-Unwrapped.is, views) refl
 
 pub returns-in-ChoiceOf : goal.returns-in-ChoiceOf
-returns-in-ChoiceOf c = λ read. simp (c.in-ChoiceOf.is, views) refl
+returns-in-ChoiceOf c = simp (c.in-ChoiceOf.is, views) refl
 
 pub returns-in-ChoiceOfName : goal.returns-in-ChoiceOfName
-returns-in-ChoiceOfName c = λ read. simp (c.in-ChoiceOfName.is, views) refl
+returns-in-ChoiceOfName c = simp (c.in-ChoiceOfName.is, views) refl
 
 pub returns-in-Tagged : goal.returns-in-Tagged
-returns-in-Tagged c = λ read. simp (c.in-Tagged.is, views) refl
+returns-in-Tagged c = simp (c.in-Tagged.is, views) refl
 
 pub returns-in-TaggedBy : goal.returns-in-TaggedBy
-returns-in-TaggedBy c = λ read. simp (c.in-TaggedBy.is, views) refl
+returns-in-TaggedBy c = simp (c.in-TaggedBy.is, views) refl
 
 pub returns-in-SimpleBy : goal.returns-in-SimpleBy
-returns-in-SimpleBy c = λ read. simp (c.in-SimpleBy.is, views) refl
+returns-in-SimpleBy c = simp (c.in-SimpleBy.is, views) refl
 
 pub returns-in-Hash : goal.returns-in-Hash
-returns-in-Hash c = λ read. simp (c.in-Hash.is, views) refl
+returns-in-Hash c = simp (c.in-Hash.is, views) refl
