@@ -134,6 +134,8 @@ class Tree:
         command = [sys.executable, "-B", *script, os.path.join(self.kit, "bin", "rt"), *words]
         how = {"stdout": subprocess.PIPE, "stderr": subprocess.STDOUT, "text": True, "start_new_session": True}
         # (a run that is killed leaves its copy behind)
+        # (where this test runs in the background, Ctrl-C is ignored, by what it starts too)
+        how["preexec_fn"] = lambda: signal.signal(signal.SIGINT, signal.SIG_DFL)
         return subprocess.Popen(command, cwd=self.top, env={**os.environ, "TMPDIR": os.path.dirname(self.top)}, **how)
 
     def build(self):
