@@ -14,7 +14,8 @@ each request for memory refused in turn, too (tests/run_memory.py). What a row e
 what the program printed. A call is named 'ROOM.NAME', mostly by the name of the function:
 
   stream_calls  item and device of cbor_item, read of cbor_read, form of read_items; match of table_nodes and cddl_match, session
-                and run of seq_run; tool of command_line, cddl_tool and cddl
+                and run of seq_run; validate of cddl
+  tool_calls    tool of command_line and cddl_tool
   spec_calls    literal of cddl_literal, token of cddl_token, terms and texts of check_terms, value of check_literals::values and
                 cddl_literal::operators, names of check_names, prelude of check_reading, graph of graphs, parts of alternatives;
                 text and root: what the rooms of cddl_check tell of a text, and of what its root leads to; lesser and too_many;
@@ -66,6 +67,9 @@ has nothing in it. A refusal is the name of its kind, with 'at' its place. Reade
                                the line of the end, or why there is none; how many bytes were read of a device that gives at most
                                SIZE at once, and how many were asked for at once; and what was written, each line after ' / '.
                                So do run.end_line, run.rewrite and run.deterministic
+  validate.report SOURCE SINK NAME STEPS DEPTH BYTES SPEC HEX
+                               the line of the end, or why there is none, and what was written; so do the other three. NAME is
+                               that of the root, or '-'
   terms.ask WORD..             calls of one new table of terms, each with its answer: add:FORM, add_node:FORM:TEXT:FIRST:SECOND,
                                fill:BODY:PARAMETERS:ARGUMENTS and others; '=3' is the number that the third word answered
 

@@ -131,7 +131,7 @@ def wants_memory(call, want, it):
         return is_lost_session(want.split(" | "), it.split(" | "))
     if call.startswith("tool.act "):
         return is_lost_act(want, it)
-    if call.startswith("tool."):
+    if call.startswith(("tool.", "validate.")):
         return "no memory" in it or "out of memory" in it
     if call.startswith("run."):
         return is_lost_run(want.split(" / "), it.split(" / "))

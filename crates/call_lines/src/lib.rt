@@ -5,9 +5,11 @@
 //! has no memory, it ends with the status 3.
 #![tactic(auto)]
 
+mod devices;
 mod lines;
 mod words;
 
+pub use crate::devices::{Sink, Source};
 pub use crate::lines::{Answers, run, say_no_memory};
 pub use crate::words::{
     bytes, count, first, limit, number, push_bytes, push_hex, push_is, push_no_memory, push_none,

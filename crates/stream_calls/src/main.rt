@@ -1,10 +1,8 @@
-//! Answers calls over items, streams and the program: of `cbor_item`, `cbor_read` and `read_items`; of `table_nodes`, `cddl_match`
-//! and `seq_run`; and of `command_line`, `cddl_tool` and `cddl`.
+//! Answers calls over items and streams: of `cbor_item`, `cbor_read` and `read_items`; of `table_nodes`, `cddl_match` and
+//! `seq_run`; and of `cddl`.
 #![tactic(auto)]
 
-mod act_calls;
 mod desk;
-mod devices;
 mod form_calls;
 mod item_calls;
 mod items;
@@ -12,15 +10,11 @@ mod match_calls;
 mod read_calls;
 mod reason_calls;
 mod run_calls;
-mod say_calls;
 mod session_calls;
 mod sessions;
-mod shown;
 mod table_calls;
 mod tables;
-mod tool_calls;
 mod validate_calls;
-mod word_calls;
 mod write_calls;
 
 use crate::desk::Desk;

@@ -3,9 +3,8 @@
 ghost use Rattle.std.specs.Prelude.{IfOk};
 ghost use Rattle.seq_run.specs.Report.{IsShown};
 
-use crate::devices::Source;
 use crate::session_calls::limits_of;
-use call_lines::{bytes, count, first, number, push_bytes, push_number, push_text};
+use call_lines::{Source, bytes, count, first, number, push_bytes, push_number, push_text};
 use cbor_item::{Counted, Sound};
 use seq_run::{End, Mode, RunFault, end_line, run};
 use std::alloc::{AllocError, Global};
@@ -28,7 +27,7 @@ pub(crate) fn answer(
         return out.push_str("no limits");
     };
     let size = count(size);
-    let source = Source::by_pieces(&stream, size, size, usize::MAX, ErrorKind::Other);
+    let source = Source::new(&stream, size, size, usize::MAX, ErrorKind::Other);
     let mut input = Counted::new(source);
     let mut output = Counted::new(Vec::with_capacity(alloc, 65536)?);
     let mode = mode_of(name);
@@ -91,15 +90,19 @@ fn push_source(
     source: Source<'_>,
     out: &mut String,
 ) -> Result<(), AllocError> {
-    let given = stream.len().saturating_sub(source.left());
+    let given = stream.len().saturating_sub(source.bytes.len());
     out.push_str("; given ")?;
     push_number(alloc, given as u64, out)?;
     out.push_str(", at once ")?;
-    push_number(alloc, source.largest() as u64, out)
+    push_number(alloc, source.largest as u64, out)
 }
 
 // What was written: each line with ` / ` before it, or bytes where it is no text.
-fn push_output(alloc: Global, written: &[u8], out: &mut String) -> Result<(), AllocError> {
+pub(crate) fn push_output(
+    alloc: Global,
+    written: &[u8],
+    out: &mut String,
+) -> Result<(), AllocError> {
     match str::from_utf8(written) {
         Ok(text) if text.ends_with('\n') => push_lines(text, out),
         _ => {

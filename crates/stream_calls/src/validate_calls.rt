@@ -3,21 +3,20 @@
 ghost use Rattle.std.specs.Prelude.{IfOk};
 ghost use Rattle.seq_run.specs.Report.{IsShown};
 
-use crate::devices::{Sink, Source};
-use crate::run_calls::{mode_of, push_line};
+use crate::run_calls::{mode_of, push_line, push_output};
 use crate::session_calls::limits_of;
-use crate::shown::push_written;
-use call_lines::{bytes, first, number, push_number};
+use call_lines::{Sink, Source, bytes, count, first, number, push_number};
 use cddl::{Counted, End, Failure, RunFault, Sound, end_line, validate};
 use std::alloc::{AllocError, Global};
+use std::io::ErrorKind;
 
-// The mode, the source, the sink, the name of the root or `-`, the steps, the limits, the specification, and the stream.
-pub(crate) fn push_validated(
+// The words are the source, the sink, the name of the root or `-`, the steps, the limits, the specification, and the stream.
+pub(crate) fn answer(
     alloc: Global,
+    name: &str,
     words: &str,
     out: &mut String,
 ) -> Result<(), AllocError> {
-    let (mode, words) = first(words);
     let (source, words) = first(words);
     let (sink, words) = first(words);
     let (root, words) = first(words);
@@ -29,24 +28,45 @@ pub(crate) fn push_validated(
     let Some(limits) = limits else {
         return out.push_str("no limits");
     };
-    let mut input = Counted::new(Source::new(&stream, source));
-    let mut output = Counted::new(Sink::of_word(alloc, sink, 1)?);
+    let mut input = Counted::new(source_of(&stream, source));
+    let mut output = Counted::new(sink_of(alloc, sink)?);
     let told = validate(
         alloc,
         &spec,
         root_of(root),
         limits,
         number(steps),
-        mode_of(mode),
+        mode_of(name),
         &mut input,
         &mut output,
     );
     push_told(alloc, &told, out)?;
-    push_written(alloc, &output.into_inner().into_taken(), out)
+    push_output(alloc, &output.into_inner().taken, out)
+}
+
+// `cut:2` gives two pieces; `Other:2` fails after two reads of one byte.
+fn source_of<'a>(stream: &'a [u8], word: &str) -> Source<'a> {
+    match word.split_once(':') {
+        Some(("cut", piece)) => Source::new(
+            stream,
+            count(piece),
+            stream.len(),
+            usize::MAX,
+            ErrorKind::Other,
+        ),
+        Some((_, reads)) => Source::new(stream, 1, 1, count(reads), ErrorKind::Other),
+        None => Source::new(stream, 1, 1, usize::MAX, ErrorKind::Other),
+    }
+}
+
+// `1000:fails` or `1000:stops`, for a device that takes one byte a write.
+fn sink_of(alloc: Global, word: &str) -> Result<Sink, AllocError> {
+    let (room, end) = word.split_once(':').unwrap_or((word, ""));
+    Sink::new(alloc, count(room), end == "fails", 1)
 }
 
 // The name of the root, or `-`.
-pub(crate) fn root_of(word: &str) -> Option<&str> {
+fn root_of(word: &str) -> Option<&str> {
     if word == "-" { None } else { Some(word) }
 }
 

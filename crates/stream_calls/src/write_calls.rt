@@ -1,7 +1,6 @@
 //! Calls of `cbor_item` to devices: what is written, and how often the device failed.
-use crate::devices::{Sink, Source};
 use crate::items::sound_of;
-use call_lines::{bytes, count, first, push_bytes, push_number};
+use call_lines::{Sink, Source, bytes, count, first, push_bytes, push_number};
 use cbor_item::{Counted, DetFault, WriteFault, write_bytes, write_det, write_item};
 use std::alloc::{AllocError, Global};
 use std::io::{self, ErrorKind};
@@ -18,10 +17,10 @@ pub(crate) fn answer(
     if name == "read" {
         return push_reads(alloc, count(room), end, count(words), out);
     }
-    let mut sink = Counted::new(Sink::new(alloc, count(room), end, 1)?);
+    let mut sink = Counted::new(Sink::new(alloc, count(room), end == "fails", 1)?);
     perform(alloc, name, words, &mut sink, out)?;
     push_failures(alloc, sink.failures(), out)?;
-    push_bytes(alloc, &sink.into_inner().into_taken(), out)
+    push_bytes(alloc, &sink.into_inner().taken, out)
 }
 
 fn perform(
@@ -100,7 +99,7 @@ fn push_reads(
 ) -> Result<(), AllocError> {
     let given = vec![in alloc; b'a'; room]?;
     let most = if end == "fails" { room } else { usize::MAX };
-    let source = Source::by_pieces(&given, 1, 1, most, ErrorKind::TimedOut);
+    let source = Source::new(&given, 1, 1, most, ErrorKind::TimedOut);
     let mut device = Counted::new(source);
     for _ in 0..reads {
         push_read(alloc, &mut device, out)?;

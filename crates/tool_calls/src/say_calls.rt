@@ -1,5 +1,5 @@
 //! Calls of `command_line` that read the text of a specification, or say something on standard error.
-use crate::devices::{Sink, Source};
+use crate::devices::{sink_of, source_of};
 use crate::shown::push_written;
 use crate::word_calls::options_of;
 use call_lines::{bytes, first, push_no_memory, push_number};
@@ -22,14 +22,14 @@ pub(crate) fn push_read_text(
     let text = bytes(alloc, text)?;
     let name = bytes(alloc, name)?;
     let name = str::from_utf8(&name).unwrap_or("");
-    let mut file = Source::new(&text, source);
-    let mut err = Counted::new(Sink::of_word(alloc, "100:fails", usize::MAX)?);
+    let mut file = source_of(&text, source);
+    let mut err = Counted::new(sink_of(alloc, "100:fails", usize::MAX)?);
     match read_text(alloc, &mut file, name, &mut err) {
         Ok(read) => push_of(alloc, "read ", read.len(), out)?,
         Err(status) => push_of(alloc, "status ", status as usize, out)?,
     }
-    push_of(alloc, ", left ", file.left(), out)?;
-    push_written(alloc, &err.into_inner().into_taken(), out)
+    push_of(alloc, ", left ", file.bytes.len(), out)?;
+    push_written(alloc, &err.into_inner().taken, out)
 }
 
 fn push_of(alloc: Global, text: &str, number: usize, out: &mut String) -> Result<(), AllocError> {
@@ -44,13 +44,13 @@ pub(crate) fn push_said(alloc: Global, words: &str, out: &mut String) -> Result<
     let text = bytes(alloc, text)?;
     let name = bytes(alloc, name)?;
     let name = str::from_utf8(&name).unwrap_or("");
-    let mut err = Counted::new(Sink::of_word(alloc, room, usize::MAX)?);
+    let mut err = Counted::new(sink_of(alloc, room, usize::MAX)?);
     say(&text, &mut err);
     let status = say_unopened(alloc, name, &mut err);
     push_number(alloc, status as u64, out)?;
     let sink = err.into_inner();
-    push_of(alloc, ", writes ", sink.writes(), out)?;
-    push_written(alloc, &sink.into_taken(), out)
+    push_of(alloc, ", writes ", sink.writes, out)?;
+    push_written(alloc, &sink.taken, out)
 }
 
 // The room of a device: that memory was refused.
@@ -59,17 +59,17 @@ pub(crate) fn push_no_memory_said(
     words: &str,
     out: &mut String,
 ) -> Result<(), AllocError> {
-    let mut err = Counted::new(Sink::of_word(alloc, words, usize::MAX)?);
+    let mut err = Counted::new(sink_of(alloc, words, usize::MAX)?);
     let status = say_no_memory(&mut err);
     push_number(alloc, status as u64, out)?;
-    push_written(alloc, &err.into_inner().into_taken(), out)
+    push_written(alloc, &err.into_inner().taken, out)
 }
 
 // The room of a device, `read` or `write`, and a number: what failed after so many items or bytes.
 pub(crate) fn push_failed(alloc: Global, words: &str, out: &mut String) -> Result<(), AllocError> {
     let (room, words) = first(words);
     let (call, number) = first(words);
-    let mut err = Counted::new(Sink::of_word(alloc, room, usize::MAX)?);
+    let mut err = Counted::new(sink_of(alloc, room, usize::MAX)?);
     let status = if call == "read" {
         say_read_failed(number.parse::<u64>().unwrap_or(0), &mut err)
     } else {
@@ -77,8 +77,8 @@ pub(crate) fn push_failed(alloc: Global, words: &str, out: &mut String) -> Resul
     };
     push_number(alloc, status as u64, out)?;
     let sink = err.into_inner();
-    push_of(alloc, ", writes ", sink.writes(), out)?;
-    push_written(alloc, &sink.into_taken(), out)
+    push_of(alloc, ", writes ", sink.writes, out)?;
+    push_written(alloc, &sink.taken, out)
 }
 
 // The room of standard output, and words that give no options: the status, and what is said of them on both devices.
@@ -88,14 +88,14 @@ pub(crate) fn push_words_said(
     out: &mut String,
 ) -> Result<(), AllocError> {
     let (room, words) = first(words);
-    let mut output = Counted::new(Sink::of_word(alloc, room, usize::MAX)?);
-    let mut err = Counted::new(Sink::of_word(alloc, "4096:fails", usize::MAX)?);
+    let mut output = Counted::new(sink_of(alloc, room, usize::MAX)?);
+    let mut err = Counted::new(sink_of(alloc, "4096:fails", usize::MAX)?);
     match options_of(alloc, words)? {
         Err(Use::Words(error)) => {
             let status = say_words(alloc, &error, &mut output, &mut err);
             push_number(alloc, status as u64, out)?;
-            push_written(alloc, &err.into_inner().into_taken(), out)?;
-            push_written(alloc, &output.into_inner().into_taken(), out)
+            push_written(alloc, &err.into_inner().taken, out)?;
+            push_written(alloc, &output.into_inner().taken, out)
         }
         Err(Use::Memory) => push_no_memory(out),
         Ok(_) => out.push_str("options"),
@@ -136,8 +136,8 @@ pub(crate) fn push_no_text(alloc: Global, words: &str, out: &mut String) -> Resu
     for word in words.split(' ') {
         list.push(bytes(alloc, word)?)?;
     }
-    let mut err = Counted::new(Sink::of_word(alloc, "100:fails", usize::MAX)?);
+    let mut err = Counted::new(sink_of(alloc, "100:fails", usize::MAX)?);
     let status = say_no_text(alloc, &Arguments { words: list }, &mut err);
     push_number(alloc, status as u64, out)?;
-    push_written(alloc, &err.into_inner().into_taken(), out)
+    push_written(alloc, &err.into_inner().taken, out)
 }

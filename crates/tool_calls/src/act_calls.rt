@@ -1,9 +1,8 @@
 //! Calls of `cddl_tool`: what it writes, and the exit status, for streams in pieces and for devices that fail.
-use crate::devices::{Sink, Source};
+use crate::devices::{sink_of, source_of};
 use crate::shown::push_written;
-use crate::validate_calls::root_of;
 use crate::word_calls::options_of;
-use call_lines::{bytes, first, push_no_memory, push_number};
+use call_lines::{Sink, Source, bytes, first, push_no_memory, push_number};
 use cbor_item::Counted;
 use cddl_tool::{Options, Refusal, act, read_specification, ready};
 use std::alloc::{AllocError, Global};
@@ -16,12 +15,12 @@ pub(crate) fn push_acted(alloc: Global, words: &str, out: &mut String) -> Result
     let (stream, words) = first(words);
     let spec = bytes(alloc, spec)?;
     let stream = bytes(alloc, stream)?;
-    let mut input = Counted::new(Source::new(&stream, source));
-    let mut output = Counted::new(Sink::of_word(alloc, sink, 1)?);
+    let mut input = Counted::new(source_of(&stream, source));
+    let mut output = Counted::new(sink_of(alloc, sink, 1)?);
     match options_of(alloc, words)? {
         Ok(options) => {
             push_status(alloc, &options, &spec, &mut input, &mut output, out)?;
-            push_written(alloc, &output.into_inner().into_taken(), out)
+            push_written(alloc, &output.into_inner().taken, out)
         }
         Err(_) => out.push_str("no options"),
     }
@@ -36,10 +35,10 @@ fn push_status(
     output: &mut Counted<Sink>,
     out: &mut String,
 ) -> Result<(), AllocError> {
-    let mut errors = Counted::new(Sink::of_word(alloc, "4096:fails", usize::MAX)?);
+    let mut errors = Counted::new(sink_of(alloc, "4096:fails", usize::MAX)?);
     let status = status_of(alloc, options, spec, input, output, &mut errors);
     push_number(alloc, status as u64, out)?;
-    push_written(alloc, &errors.into_inner().into_taken(), out)
+    push_written(alloc, &errors.into_inner().taken, out)
 }
 
 fn status_of(
@@ -67,4 +66,8 @@ pub(crate) fn push_read(alloc: Global, words: &str, out: &mut String) -> Result<
             out.push_str(format!(in alloc; "{code} at {at}")?.as_str())
         }
     }
+}
+
+fn root_of(word: &str) -> Option<&str> {
+    if word == "-" { None } else { Some(word) }
 }

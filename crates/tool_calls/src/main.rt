@@ -1,0 +1,45 @@
+//! Answers calls of `command_line` and `cddl_tool`: what the program says and writes.
+#![tactic(auto)]
+
+mod act_calls;
+mod devices;
+mod say_calls;
+mod shown;
+mod word_calls;
+
+use call_lines::{Answers, first, run};
+use std::alloc::{AllocError, Global};
+use std::process::ExitCode;
+
+fn main(rt: HostRuntime) -> ExitCode {
+    let (mut input, mut out, mut err) = (rt.stdin(), rt.stdout(), rt.stderr());
+    let mut calls = Calls { alloc: rt.alloc() };
+    run(rt.alloc(), &mut calls, &mut input, &mut out, &mut err)
+}
+
+// The calls by their names.
+#[derive(Drop)]
+struct Calls {
+    alloc: Global,
+}
+
+impl Answers for Calls {
+    fn answer(&mut self, line: &str, out: &mut String) -> Result<(), AllocError> {
+        let alloc = self.alloc;
+        let (call, words) = first(line);
+        match call {
+            "tool.options" => word_calls::push_options(alloc, words, out),
+            "tool.options_of_arguments" => word_calls::push_owned(alloc, words, out),
+            "tool.stream_name" => word_calls::push_stream_name(alloc, words, out),
+            "tool.act" => act_calls::push_acted(alloc, words, out),
+            "tool.read_specification" => act_calls::push_read(alloc, words, out),
+            "tool.read_text" => say_calls::push_read_text(alloc, words, out),
+            "tool.say" => say_calls::push_said(alloc, words, out),
+            "tool.say_failed" => say_calls::push_failed(alloc, words, out),
+            "tool.say_no_memory" => say_calls::push_no_memory_said(alloc, words, out),
+            "tool.say_words" => say_calls::push_words_said(alloc, words, out),
+            "tool.say_no_text" => say_calls::push_no_text(alloc, words, out),
+            _ => out.push_str("no such call"),
+        }
+    }
+}
