@@ -12,6 +12,8 @@ After each part comes a line with the processor time that it took, and at the en
 """
 import argparse
 import glob
+import io
+import multiprocessing
 import os
 import re
 import shlex
@@ -19,7 +21,9 @@ import shutil
 import subprocess
 import sys
 import time
+import traceback
 from concurrent.futures import ThreadPoolExecutor
+from contextlib import redirect_stdout
 
 import random_cuts
 import random_orders
@@ -141,33 +145,63 @@ def crate_of(program):
     return os.path.dirname(os.path.dirname(program))
 
 
+# What is run on the programs: parts that have nothing to do with one another, the longest first; and those that wait for a second
+# to go by, or send signals, which are run when nothing else is.
+PARTS = (
+    ("commands and calls with each request for memory refused", lambda: run_memory(PROGRAM)),
+    ("calls for C, and the rows through them and through Python", lambda: run_library(os.path.dirname(PROGRAM))),
+    ("random streams as a file and in pieces", lambda: random_cuts.compare(PROGRAM)),
+    ("hostile inputs in a small stack and in little memory", lambda: run_small(PROGRAM)),
+    ("rows on the built program", lambda: run_rows(PROGRAM)),
+    ("rows of public calls", run_calls),
+    ("random items whose pairs are in two orders", lambda: random_orders.compare(PROGRAM)),
+    ("rows of the grammar", lambda: run_grammar(OUTLINE)),
+    ("comparisons with a plain recognizer", lambda: recognizer.compare(OUTLINE)),
+    ("comparisons of the man page with the program's help", lambda: (1, 0) if is_page_right(PROGRAM) else (0, 1)),
+    ("comparisons of the completions with the program's help", lambda: (1, 0) if are_completions_right(PROGRAM) else (0, 1)),
+    ("comparisons of explanations with the documents", lambda: (1, 0) if are_explanations_right(PROGRAM) else (0, 1)),
+)
+LAST = (
+    ("progress on a terminal", lambda: run_progress(PROGRAM)),
+    ("builds that are broken off and begun again", run_builds),
+)
+
+
+def answer_of(number):
+    """What a part answers, in a process of its own, and what it printed. A part that cannot end has failed."""
+    began, said = time.monotonic(), io.StringIO()
+    with redirect_stdout(said):
+        try:
+            passed, failed = PARTS[number][1]()
+        except Exception:
+            traceback.print_exc(file=said)
+            passed, failed = 0, 1
+    return passed, failed, said.getvalue(), time.monotonic() - began
+
+
+def counted(name, passed, failed, seconds):
+    print(f"{name}: {passed} passed, {failed} failed, {seconds:.0f} s", flush=True)
+    return passed, failed
+
+
 def rows(rt):
-    """Runs the rows on the programs and the library that were proved just now, and returns how many passed and failed."""
+    """Runs all that is run on the programs and the library that were proved just now, as many parts side by side as there are
+    processors, and returns how many passed and failed."""
     os.makedirs(os.path.dirname(PROGRAM), exist_ok=True)
     shutil.copy(PROVED, PROGRAM)
     link(rt, CALLS, os.path.dirname(PROGRAM))
-    passed = failed = 0
-    for name, run in (
-        ("rows on the built program", lambda: run_rows(PROGRAM)),
-        ("rows of public calls", run_calls),
-        ("calls for C, and the rows through them and through Python", lambda: run_library(os.path.dirname(PROGRAM))),
-        ("random streams as a file and in pieces", lambda: random_cuts.compare(PROGRAM)),
-        ("random items whose pairs are in two orders", lambda: random_orders.compare(PROGRAM)),
-        ("commands and calls with each request for memory refused", lambda: run_memory(PROGRAM)),
-        ("hostile inputs in a small stack and in little memory", lambda: run_small(PROGRAM)),
-        ("comparisons of the man page with the program's help", lambda: (1, 0) if is_page_right(PROGRAM) else (0, 1)),
-        ("comparisons of the completions with the program's help", lambda: (1, 0) if are_completions_right(PROGRAM) else (0, 1)),
-        ("comparisons of explanations with the documents", lambda: (1, 0) if are_explanations_right(PROGRAM) else (0, 1)),
-        ("progress on a terminal", lambda: run_progress(PROGRAM)),
-        ("builds that are broken off and begun again", run_builds),
-        ("rows of the grammar", lambda: run_grammar(OUTLINE)),
-        ("comparisons with a plain recognizer", lambda: recognizer.compare(OUTLINE)),
-    ):
+    counts = []
+    with multiprocessing.get_context("fork").Pool(len(os.sched_getaffinity(0))) as pool:
+        for (name, _), (passed, failed, said, seconds) in zip(PARTS, pool.imap(answer_of, range(len(PARTS)), 1)):
+            print(f"== {name}\n{said}", end="", flush=True)
+            counts.append(counted(name, passed, failed, seconds))
+        pool.close()
+        pool.join()
+    for name, run in LAST:
         print(f"== {name}", flush=True)
-        more, bad = run()
-        print(f"{name}: {more} passed, {bad} failed", flush=True)
-        passed, failed = passed + more, failed + bad
-    return passed, failed
+        began = time.monotonic()
+        counts.append(counted(name, *run(), time.monotonic() - began))
+    return tuple(sum(it) for it in zip(*counts))
 
 
 def main():
