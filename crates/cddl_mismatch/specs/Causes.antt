@@ -26,11 +26,11 @@ told_cause greedy (Few key count least) = Told.KeyTooFew count least
 told_cause greedy (Many key count most later) = Told.KeyTooMany count most later
 told_cause greedy (NothingHeld content) = nothing_held content
 
--- the link to the type of a member or of a key that it names
+-- the link to the type of a member, or to the key of an entry, that it names
 abbrev pub link_in : Cause → List Link
 link_in (Missing member) = L.Type member ∷ []
-link_in (Few key count least) = L.Type key ∷ []
-link_in (Many key count most later) = L.Type key ∷ []
+link_in (Few key count least) = L.Key key ∷ []
+link_in (Many key count most later) = L.Key key ∷ []
 link_in Value = []
 link_in TooMuch = []
 link_in Stray = []

@@ -39,8 +39,8 @@ fn nothing_held(content: Content) -> Told
     }
 }
 
-// What led to what the reason is about: the links to what was open, and the one to the member's or the key's type, where the cause
-// has one.
+// What led to what the reason is about: the links to what was open, and the one to the member's type or to the entry's key, where
+// the cause has one.
 pub(crate) fn chain_of(alloc: Global, reason: &Reason) -> Result<Vec<Link>, AllocError>
     ensures { IfOk result (λ chain. chain.items ≡ chain_of reason.now) }
 {
@@ -58,11 +58,11 @@ fn push_link(chain: &mut Vec<Link>, cause: Cause) -> Result<(), AllocError>
             return Ok(());
         }
         Cause::Few { key, .. } => {
-            chain.push(Link::Type(key))?;
+            chain.push(Link::Key(key))?;
             return Ok(());
         }
         Cause::Many { key, .. } => {
-            chain.push(Link::Type(key))?;
+            chain.push(Link::Key(key))?;
             return Ok(());
         }
         Cause::Value => return Ok(()),

@@ -6,6 +6,7 @@ use Rattle.cddl_meaning.specs.Forms.{Language}
 use Rattle.cddl_meaning.specs.Moves as M
 use Rattle.table_nodes.specs.declared.nodes.GroupId.{GroupId}
 use Rattle.table_nodes.specs.declared.nodes.TypeId.{TypeId}
+use Rattle.cddl_reasons.specs.Known.{last_known}
 
 -- How many rounds there may be of a group each of whose rounds takes one item, at least and at most.
 
@@ -72,14 +73,9 @@ abbrev pub greedy_of : Language TypeId GroupId → M.Question TypeId GroupId →
 greedy_of l (M.OfGroup g base q xs) o = by_count (length xs) (is_needed o) (is_greedy_in l (l.group_at g) o (length xs))
 greedy_of l _ o = Some false
 
-abbrev pub first_known : Option Bool → Bool → Bool
-first_known (Some b) next = b
-first_known None next = next
-
--- the same of the last open question of which it is known, with the last one first
+-- the same of the last open question of which it is known
 abbrev pub is_greedy : Language TypeId GroupId → List (M.Question TypeId GroupId) → List (M.Pending TypeId GroupId) → Bool
-is_greedy l (q ∷ qs) (o ∷ os) = first_known (greedy_of l q o) (is_greedy l qs os)
-is_greedy l _ _ = false
+is_greedy l qs os = last_known (greedy_of l) qs os
 
 -- What the number of items leaves, whatever each part has taken (the law greedy_is_certain).
 

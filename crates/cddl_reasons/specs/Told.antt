@@ -1,5 +1,5 @@
 -- What a reason tells: a question that was open, and has failed.
-use Rattle.std.specs.Prelude.{◌≡◌, ◌≢◌, ◌⊎◌, ℕ, ◌<◌, ◌≤◌, Bool, List, [], ◌∷◌, ◌++◌, All, Option, Some, None, length, map, nat_eq, reverse}
+use Rattle.std.specs.Prelude.{◌≡◌, ◌≢◌, ◌⊎◌, ℕ, ◌<◌, ◌≤◌, Bool, false, List, [], ◌∷◌, ◌++◌, All, Option, Some, None, length, map, nat_eq, reverse}
 use Rattle.std.specs.List.{list_any}
 use Rattle.cbor_data.specs.Value.{Value}
 use Rattle.cddl_meaning.specs.Forms as F
@@ -18,6 +18,7 @@ use Rattle.table_nodes.specs.declared.table.Table.{Table}
 use Rattle.type_links.specs.declared.link.Link.{Link}
 use Rattle.type_links.specs.declared.link.Link.TheVariants as L
 use Rattle.cddl_reasons.specs.Greedy.{is_greedy}
+use Rattle.cddl_reasons.specs.Optional.{is_optional}
 use Rattle.cddl_reasons.specs.declared.causes.Cause.{Cause}
 use Rattle.cddl_reasons.specs.declared.causes.Cause.TheVariants as C
 use Rattle.cddl_reasons.specs.declared.causes.Holder.{Holder}
@@ -120,7 +121,8 @@ IsCause l q far (C.Few key count least) = IsCounted q far (C.Few key count least
 IsCause l q far (C.Many key count most later) = IsCounted q far (C.Many key count most later)
 IsCause l q far (C.NothingHeld c) = IsUnheld l q (content_view c)
 
--- The reason is a question that was open, the last of those that were, and has failed at that place.
+-- The reason is a question that was open, the last of those that were, and has failed at that place. It asks for nothing that need not
+-- be there.
 pub record IsReason (l : Language TypeId GroupId) (first : M.Question TypeId GroupId) (r : Reason) : Type 0 where
   -- those before it, the first one first, and how each of them waited
   pub before : List (M.Question TypeId GroupId)
@@ -133,6 +135,7 @@ pub record IsReason (l : Language TypeId GroupId) (first : M.Question TypeId Gro
   pub strings : map holder_view r.strings.items ≡ strings_of l before waits
   pub cause : IsCause l last r.place r.cause
   pub greedy : r.greedy ≡ is_greedy l (reverse before) (reverse waits)
+  pub needed : is_optional (reverse before) (reverse waits) ≡ false
 
 -- These are reasons, and no more of them than that.
 abbrev pub AreSome : Language TypeId GroupId → M.Question TypeId GroupId → (most : ℕ) → List Reason → Type 0

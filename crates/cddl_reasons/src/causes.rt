@@ -8,7 +8,7 @@ use type_links::Link;
 pub enum Cause {
     /// The item at the place, or the number of the tag or simple value there, is not of the last type.
     Value,
-    /// In the array at the place no item is left for a member of this type. The last type is the array's.
+    /// In the array at the place no item is left for a member of this type, which has to be there. The last type is the array's.
     Missing {
         member: TypeId,
     },
@@ -67,7 +67,8 @@ pub struct Reason {
 pub struct Reasons {
     /// Where that shows.
     pub place: usize,
-    /// The first reasons, in the order in which the questions have failed.
+    /// The first reasons, in the order in which the questions have failed. A further round of an occurrence that has had enough is
+    /// none where no item is left for it.
     pub list: Vec<Reason>,
     /// How many more there are.
     pub more: u64,

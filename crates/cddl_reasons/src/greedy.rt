@@ -104,7 +104,7 @@ fn is_greedy_in(table: &Table, group: GroupId, pending: &Pending<'_, '_>, count:
 }
 
 // Whether what waits so asks for more than a further round of an occurrence that has had enough.
-fn is_needed(pending: &Pending<'_, '_>) -> bool
+pub(crate) fn is_needed(pending: &Pending<'_, '_>) -> bool
     ensures { result ≡ is_needed (pending_view pending.now) }
 {
     match pending {
@@ -137,7 +137,7 @@ fn greedy_of(table: &Table, waiting: &Open<'_, '_>) -> Option<bool>
 }
 
 // The open question at this index.
-fn open_at<'o, 't, 'i>(below: &'o [Open<'t, 'i>], index: usize) -> &'o Open<'t, 'i>
+pub(crate) fn open_at<'o, 't, 'i>(below: &'o [Open<'t, 'i>], index: usize) -> &'o Open<'t, 'i>
     requires { index < length below.now }
     ensures { slice_get below.now index ≡ Some result.now }
 {

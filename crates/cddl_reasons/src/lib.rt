@@ -6,6 +6,7 @@ mod causes;
 mod collecting;
 mod found;
 mod greedy;
+mod optional;
 mod run;
 mod telling;
 mod turns;

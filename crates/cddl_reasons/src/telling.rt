@@ -1,6 +1,6 @@
 //! What is told of a question that has failed.
 
-ghost use Rattle.std.specs.Prelude.{◌≡◌, ◌++◌, ◌∷◌, ℕ, List, [], IfOk, IfSome, length, map, nat_eq, nat_lt};
+ghost use Rattle.std.specs.Prelude.{◌≡◌, ◌++◌, ◌∷◌, ℕ, List, [], IfOk, IfSome, false, length, map, nat_eq, nat_lt, reverse};
 ghost use Rattle.std.specs.Option.{option_map};
 ghost use Rattle.std.specs.List.{list_any};
 ghost use Rattle.cbor_data.specs.Value.{Pairs, Value};
@@ -9,6 +9,7 @@ ghost use Rattle.cddl_meaning.specs.Judges as J;
 ghost use Rattle.cddl_meaning.specs.Moves as M;
 ghost use Rattle.cddl_match.specs.Entering.{EndIn};
 ghost use Rattle.cddl_reasons.specs.Opened.{StandsAt, asked_in, waits_in};
+ghost use Rattle.cddl_reasons.specs.Optional.{is_optional};
 ghost use Rattle.cddl_reasons.specs.Told.{AreSome, IsCause, IsCount, IsEntryOf, IsReason, content_in, content_of, holder_view, links_of, part_of, string_of, strings_of, type_of, has_key};
 ghost use Rattle.match_moves.specs.Views.{pending_group_view, pending_map_view, pending_view, question_view, reply_view, values};
 ghost use Rattle.table_nodes.specs.Language.{language_of};
@@ -21,6 +22,7 @@ use crate::aims::{Aim, is_at};
 use crate::causes::{Cause, Holder, Reason};
 use crate::found::{Deeper, Found};
 use crate::greedy::is_greedy;
+use crate::optional::is_optional;
 use crate::run::{Open, Run, Wanted};
 use item_nodes::Item;
 use match_moves::{Counts, Pending, PendingGroup, PendingMap, PendingType, Question, Reply};
@@ -318,7 +320,7 @@ fn cause_in(table: &Table, last: &Open<'_, '_>, far: usize) -> Cause
     }
 }
 
-// The last question as a reason, since it has failed at this place.
+// The last question as a reason, since it has failed at this place and is needed.
 fn reason_of(
     alloc: Global,
     table: &Table,
@@ -326,7 +328,7 @@ fn reason_of(
     far: usize,
     cause: Cause,
 ) -> Result<Reason, AllocError>
-    ensures { IfOk result (λ reason. (first : M.Question TypeId GroupId) → IsCause (language_of table.now) (question_view run.now.last.question) far cause → StandsAt (language_of table.now) first run.now.below.items run.now.last (M.Answered (J.Fails far)) → IsReason (language_of table.now) first reason) }
+    ensures { IfOk result (λ reason. (first : M.Question TypeId GroupId) → IsCause (language_of table.now) (question_view run.now.last.question) far cause → StandsAt (language_of table.now) first run.now.below.items run.now.last (M.Answered (J.Fails far)) → is_optional (reverse (asked_in run.now.below.items)) (reverse (waits_in run.now.below.items)) ≡ false → IsReason (language_of table.now) first reason) }
 {
     let below = run.below.as_slice();
     let mut links = links_in(alloc, below)?;
@@ -368,7 +370,8 @@ fn has_room(found: &Found, aim: Aim<'_>) -> bool
     found.list.len() < aim.most
 }
 
-// The last question has failed at this place, for this cause: one reason more, in the list if that has room.
+// The last question has failed at this place, for this cause: one reason more, in the list if that has room. It is none where it asks
+// for what need not be there: the occurrence that asks it says yes without it.
 fn tell_cause(
     table: &Table,
     run: &Run<'_, '_>,
@@ -379,6 +382,9 @@ fn tell_cause(
 ) -> Result<(), AllocError>
     ensures { IfOk result (λ _. (first : M.Question TypeId GroupId) → IsCause (language_of table.now) (question_view run.now.last.question) far cause → StandsAt (language_of table.now) first run.now.below.items run.now.last (M.Answered (J.Fails far)) → AreSome (language_of table.now) first aim.entry.most found.old.list.items → AreSome (language_of table.now) first aim.entry.most found.new.list.items) }
 {
+    if is_optional(run.below.as_slice()) {
+        return Ok(());
+    }
     if !has_room(found, aim) {
         found.more = found.more.saturating_add(1);
         return Ok(());

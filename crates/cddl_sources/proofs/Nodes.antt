@@ -31,7 +31,7 @@ use Rattle.tree_nodes.specs.declared.tree.Type2.TheVariants as Type2V
 use Rattle.tree_nodes.specs.declared.tree.GrpEnt.TheViews.{out-Types, out-GenericArg, out-Group, out-GrpChoice}
 use Rattle.tree_nodes.specs.View.{leaf, view_type1, view_type2, view_ref, view_key, view_grpent, view_rule, view_value, view_further, view_entry, view_choice, view_types, view_arg, view_group, with_types, with_arguments, with_entries, with_choices}
 use Rattle.tree_nodes.proofs.Lemmas.{view-Name, view-Applied, view-One, view-Operation, view-Literal, view-Typename, view-Parens, view-MapOf, view-ArrayOf, view-Unwrapped, view-ChoiceOf, view-ChoiceOfName, view-Tagged, view-TaggedBy, view-SimpleBy, view-Hash, view-Typed, view-Keyed, view-Grouped, view-TypeKey, view-Bareword, view-ValueKey, view-Entry, view-Further, view_out-GrpChoice, view_out-Types, view_out-GenericArg, view_out-Group}
-use Rattle.cddl_sources.specs.Pieces.{Around, Piece, a_member, a_type, a_value, a_word, an_entry, bare_type1, bare_types, brackets, count_of, entries_in, inner_of, key_piece, operand, in_types, in_members, in_type1, in_type2, in_ref, in_arguments, in_group, in_entries, in_entry, in_key, in_rule, inner_or, name_of_type1, name_of_types, of_group, of_types, own_count, own_entries, the_rule}
+use Rattle.cddl_sources.specs.Pieces.{Around, Piece, a_key, a_member, a_type, a_value, a_word, an_entry, bare_type1, bare_types, brackets, count_of, entries_in, inner_of, key_piece, operand, in_types, in_members, in_type1, in_type2, in_ref, in_arguments, in_group, in_entries, in_entry, in_key, in_rule, inner_or, name_of_type1, name_of_types, of_group, of_types, own_count, own_entries, the_rule}
 use Rattle.cddl_sources.specs.Walk.{further_pieces, entry_pieces, choice_pieces, view_around}
 use Rattle.cddl_sources.specs.declared.node.AroundNode.{AroundNode}
 
@@ -169,11 +169,12 @@ module _ (read : Leaf → Token) where
   pub typed_pieces : (b : Around) (x : GrpEnt) (o : Option Leaf) (t : Types) → x ≡ GrpEntV.Typed o t → in_entry b (view_grpent read x) ≡ a_member b (view_types read t) ∷ in_types (view_types read t)
   typed_pieces b x o t is = seen_entry b x _ _ is (view-Typed read o t)
 
-  pub keyed_pieces : (b : Around) (x : GrpEnt) (o : Option Leaf) (k : Box MemberKey Global) (t : Types) (y z : MemberKey) → x ≡ GrpEntV.Keyed o k t → y ≡ k.value → z ≡ k.value → in_entry b (view_grpent read x) ≡ in_key (view_key read y) ++ (a_value b (key_piece (view_key read z)) (view_types read t) ∷ in_types (view_types read t))
-  keyed_pieces b x o k t y z is e f =
+  pub keyed_pieces : (b : Around) (x : GrpEnt) (o : Option Leaf) (k : Box MemberKey Global) (t : Types) (y z v : MemberKey) → x ≡ GrpEntV.Keyed o k t → y ≡ k.value → z ≡ k.value → v ≡ k.value → in_entry b (view_grpent read x) ≡ in_key (view_key read y) ++ (a_key b (key_piece (view_key read z)) ∷ a_value b (key_piece (view_key read v)) (view_types read t) ∷ in_types (view_types read t))
+  keyed_pieces b x o k t y z v is e f g =
       seen_entry b x _ _ is (view-Keyed read o k t)
-      ∙ ap (λ (w : MemberKey). in_key (view_key read w) ++ (a_value b (key_piece (view_key read k.value)) (view_types read t) ∷ in_types (view_types read t))) (sym e)
-      ∙ ap (λ (w : MemberKey). in_key (view_key read y) ++ (a_value b (key_piece (view_key read w)) (view_types read t) ∷ in_types (view_types read t))) (sym f)
+      ∙ ap (λ (w : MemberKey). in_key (view_key read w) ++ (a_key b (key_piece (view_key read k.value)) ∷ a_value b (key_piece (view_key read k.value)) (view_types read t) ∷ in_types (view_types read t))) (sym e)
+      ∙ ap (λ (w : MemberKey). in_key (view_key read y) ++ (a_key b (key_piece (view_key read w)) ∷ a_value b (key_piece (view_key read k.value)) (view_types read t) ∷ in_types (view_types read t))) (sym f)
+      ∙ ap (λ (w : MemberKey). in_key (view_key read y) ++ (a_key b (key_piece (view_key read z)) ∷ a_value b (key_piece (view_key read w)) (view_types read t) ∷ in_types (view_types read t))) (sym g)
 
   pub grouped_pieces : (b : Around) (x : GrpEnt) (o : Option Leaf) (p : Leaf) (g : Group) (c : Leaf) → x ≡ GrpEntV.Grouped o p g c → in_entry b (view_grpent read x) ≡ entries_in (brackets (read p) (read c)) 0 (view_group read g) ++ in_group b (view_group read g)
   grouped_pieces b x o p g c is = seen_entry b x _ _ is (view-Grouped read o p g c)

@@ -20,8 +20,8 @@ use Rattle.check_terms.specs.declared.row.Row.{Row}
 use Rattle.check_terms.specs.Table.{Grows, Holds, part, Table}
 use Rattle.check_terms.specs.Trees.{IsEntry, IsTerm, term_tree}
 use Rattle.table_making.specs.declared.origin.TypeOrigin.{TypeOrigin}
-use Rattle.cddl_sources.specs.Origins.{AreRead, IsKeyOf, IsNumberOf, IsOriginOf, IsRead, MayBeOf, is_of, may_be_group, no_type, of_type, of_value, of_word}
-use Rattle.cddl_sources.specs.Pieces.{Piece, a_member, a_type, a_value, a_word, an_entry}
+use Rattle.cddl_sources.specs.Origins.{AreRead, IsKeyOf, IsNumberOf, IsOriginOf, IsRead, MayBeOf, in_its_place, is_of, may_be_group, no_type, of_type, of_value, of_word}
+use Rattle.cddl_sources.specs.Pieces.{Piece, a_key, a_member, a_type, a_value, a_word, an_entry}
 use Rattle.cddl_sources.specs.Sources.{AreRules, IsRuleAt}
 use Rattle.cddl_sources.specs.declared.node.Found.{Found}
 use Rattle.cddl_sources.specs.declared.piece.PieceAt.{PieceAt}
@@ -37,8 +37,10 @@ pub may_kept : (old new : Table) (p : Piece) (o : Option TypeOrigin) → Grows o
 may_kept old new p o g (is_of h) = is_of (origin_kept old new p _ g h)
 may_kept old new p o g no_type = no_type
 may_kept old new p o g may_be_group = may_be_group
+may_kept old new p o g in_its_place = in_its_place
 
 pub key_kept : (old new : Table) (p : Piece) (o : Option TypeOrigin) → Grows old new → IsKeyOf old p o → IsKeyOf new p o
+key_kept old new (a_key a k) o g h = may_kept old new k o g h
 key_kept old new (a_value a k x) o g h = may_kept old new k o g h
 key_kept old new (a_type x) o g h = h
 key_kept old new (a_word w) o g h = h

@@ -6,7 +6,7 @@ use Rattle.std.proofs.lemmas.List.Elements.{Contains-append_left, Contains-push,
 use Rattle.lists.proofs.Lemmas.{contains_at, none_in, place_of, same_some, within}
 use Rattle.graphs.specs.Implications.Implications.{AreFollowing, Follows, concludes}
 use Rattle.graphs.specs.declared.implications.Implication.{Implication}
-use Rattle.cddl_sources.specs.States.{AreSpliced, AreSteps, IsBetween, IsFlagged, IsInBody, IsSplicedIn, IsStep, IsValueOf, named_in_group, named_in_map, step_in_group, step_in_map, value_in_group, value_in_map}
+use Rattle.cddl_sources.specs.States.{AreSpliced, AreSteps, IsBetween, IsFlagged, IsInBody, IsSplicedIn, IsStep, IsInMap, named_in_group, named_in_map, step_in_group, step_in_map, in_its_group, in_its_brackets}
 use Rattle.cddl_sources.proofs.Stepping.{below, get_there}
 use Rattle.cddl_sources.specs.declared.piece.PieceAt.{PieceAt}
 use Rattle.cddl_sources.specs.declared.sources.Sources.{Sources}
@@ -32,12 +32,12 @@ module _ (x : Sources) (map : PieceAt) (steps : List Implication) (are : AreStep
   are_spliced flags h = record { each = λ n. (λ e. from_steps ((h.each n).0 e), λ g. (h.each n).1 (in_steps g)) }
 
 -- a value, by the flag of the rule that it is in
-pub by_flag : (x : Sources) (map a : PieceAt) (flags : List Bool) → AreSpliced x map flags → (b : Bool) → (IsBetween map a → ⊥) → IsTrue b ↔ IsFlagged x flags a → IsTrue b ↔ IsValueOf x map a
-by_flag x map a flags are b none e = (λ t. let f = e.0 t in value_in_group f.1 ((are.each f.0).0 f.2), back)
+pub by_flag : (x : Sources) (map a : PieceAt) (flags : List Bool) → AreSpliced x map flags → (b : Bool) → (IsBetween map a → ⊥) → IsTrue b ↔ IsFlagged x flags a → IsTrue b ↔ IsInMap x map a
+by_flag x map a flags are b none e = (λ t. let f = e.0 t in in_its_group f.1 ((are.each f.0).0 f.2), back)
   where
-    back : IsValueOf x map a → IsTrue b
-    back (value_in_map h) = absurd (none h)
-    back (value_in_group {n = n} h g) = e.1 (n, h, (are.each n).1 g)
+    back : IsInMap x map a → IsTrue b
+    back (in_its_brackets h) = absurd (none h)
+    back (in_its_group {n = n} h g) = e.1 (n, h, (are.each n).1 g)
 
 -- nothing follows from a piece elsewhere
 pub no_step : (x : Sources) (map a : PieceAt) (i : Implication) → (IsBetween map a → ⊥) → ((n : ℕ) → IsInBody x n a → ⊥) → IsStep x map a i → ⊥

@@ -18,12 +18,12 @@ use Rattle.table_nodes.specs.declared.nodes.TypeId.{TypeId}
 use Rattle.table_nodes.specs.declared.table.Table.{Table as Made}
 use Rattle.type_links.specs.declared.link.Link.{Link}
 use Rattle.type_links.specs.declared.link.Link.TheVariants as L
-use Rattle.cddl_sources.specs.Origins.{AreRound, AreRoundIt, IsKeyOf, IsNumberOf, IsOriginOf, IsPieceAt, MayBeIn, MayBeOf, Stands as IsThere, is_of, may_be_group, no_type, of_type, of_value as of_keyed, of_word as of_token}
-use Rattle.cddl_sources.specs.Pieces.{Around, Piece, a_member, a_type, a_value, a_word, alternatives_of, an_entry, brackets, in_rule, name_there, the_rule, name_of_piece, tokens_of_piece}
-use Rattle.cddl_sources.specs.Places.{AreEnds, AreNoPair, ArePairAt, BeginsWithInstance, IsEntryAt, IsEntryNamed, IsEntryWithin, IsOf, IsOfNoRule, IsPlace, IsShown, IsSpliced, IsTypeAt, IsValueAt, Leads, LeadsTo, Make, Stands, StandsAt, StandsIn, a_piece, another, are_ends, arrives, in_a_rule, in_group, in_map, named, named_in_group, named_in_map, no_rules, of_entry, of_value, one_more, passes, the_body, to_pair, to_type, within}
+use Rattle.cddl_sources.specs.Origins.{AreRound, AreRoundIt, IsKeyOf, IsNumberOf, IsOriginOf, IsPieceAt, MayBeIn, MayBeOf, Stands as IsThere, in_its_place, is_of, may_be_group, no_type, of_type, of_value as of_keyed, of_word as of_token}
+use Rattle.cddl_sources.specs.Pieces.{Around, Piece, a_key, a_member, a_type, a_value, a_word, alternatives_of, an_entry, brackets, in_rule, name_there, the_rule, name_of_piece, tokens_of_piece}
+use Rattle.cddl_sources.specs.Places.{AreEnds, AreNoPair, ArePairAt, BeginsWithInstance, IsEntryAt, IsEntryNamed, IsEntryWithin, IsKeyAt, IsOf, IsOfNoRule, IsOneAt, IsPlace, IsShown, IsSpliced, IsTypeAt, IsValueAt, Leads, LeadsTo, Make, Stands, StandsAt, StandsIn, a_piece, another, are_ends, arrives, in_a_rule, in_group, in_map, named, named_in_group, named_in_map, no_rules, of_entry, of_key, of_type as of_one_type, of_value, one_more, passes, the_body, to_one, to_pair, within}
 use Rattle.cddl_sources.specs.Sources.{AreSources, IsRuleAt}
 use Rattle.cddl_sources.specs.Spans.{IsNameSpan, IsSpan, IsWithin, Spot, body_tokens}
-use Rattle.cddl_sources.specs.States.{AreNoPairIn, ArePairIn, ArePassed, HasNoRule, HasNumber, IsEntryNamed as IsNamedNumbers, IsEntryOf, IsEntryWithin as IsWithinNumbers, IsFoundAfter, IsFrom, IsInBody, IsMember, IsSplicedIn, IsStateAfter, IsTold, IsTypeIn, IsValueFrom, IsValueIn, LeadsIn, arrives as by_none, count_in, counted, flattened, named as by_name, name_number, number_at, number_in, named_in_group as numbered_in_group, named_in_map as numbered_in_map, of_entry as by_entry, of_value as by_value, origin_at, passes as gone_by, text_in, to_pair as by_pair, to_type as by_type, value_in_group, value_in_map, within as by_brackets}
+use Rattle.cddl_sources.specs.States.{AreNoPairIn, ArePairIn, ArePassed, HasNoRule, HasNumber, IsEntryNamed as IsNamedNumbers, IsEntryOf, IsEntryWithin as IsWithinNumbers, IsFoundAfter, IsFrom, IsInBody, IsKeyIn, IsMember, IsOneIn, IsSplicedIn, IsStateAfter, IsTold, IsTypeIn, IsInMapFrom, IsValueIn, LeadsIn, arrives as by_none, count_in, counted, flattened, named as by_name, name_number, number_at, number_in, named_in_group as numbered_in_group, named_in_map as numbered_in_map, of_entry as by_entry, of_key as by_key, of_type as by_type, of_value as by_value, origin_at, passes as gone_by, text_in, to_one as by_one, to_pair as by_pair, in_its_group, in_its_brackets, within as by_brackets}
 use Rattle.cddl_sources.specs.declared.piece.EntryAt.{EntryAt}
 use Rattle.cddl_sources.specs.declared.piece.PieceAt.{PieceAt}
 use Rattle.cddl_sources.specs.declared.place.Place.{Place}
@@ -66,6 +66,7 @@ module _ (s : Sense) (table : Made) (x : Sources) (k : AreSources s table x) whe
   instance_number q (L.Type m) h = type_number q m h
   instance_number q (L.Alternative i) h = absurd h
   instance_number q (L.Entry i) h = absurd h
+  instance_number q (L.Key i) h = absurd h
 
   -- what has the number of a name is an instance of it
 
@@ -92,6 +93,7 @@ module _ (s : Sense) (table : Made) (x : Sources) (k : AreSources s table x) whe
   instance_of (L.Type m) n e = type_of m n e
   instance_of (L.Alternative i) n e = cc
   instance_of (L.Entry i) n e = cc
+  instance_of (L.Key i) n e = cc
 
   -- a rule with the number of a name has that name
   named_rule : (i n : ℕ) (y : Text) → (h : HasNumber x i n) → slice_get k.made.more.texts n ≡ Some y → (r : S.Rule) × (slice_get (rules_of s.tree) i ≡ Some r) × IsRuleAt k.made.more r h.at × (name_in r ≡ y)
@@ -134,11 +136,13 @@ module _ (s : Sense) (table : Made) (x : Sources) (k : AreSources s table x) whe
   named_piece p o (L.Type m) e h = type_named p o m e h
   named_piece p o (L.Alternative i) e h = cc
   named_piece p o (L.Entry i) e h = cc
+  named_piece p o (L.Key i) e h = cc
 
   -- an origin that is an instance's is of a reference
   an_instance : (m : Link) (i : ℕ) → origin_at x m ≡ Some (T.Instance i) → (q : Ref) × LeadsTo (IsNameOfType s k.terms k.nodes) (reference q) m
   an_instance (L.Alternative j) i e = cc
   an_instance (L.Entry j) i e = cc
+  an_instance (L.Key j) i e = cc
   an_instance (L.Type m) i e = is_of named.0 named.1
     where
       there : slice_get k.nodes.type_origins.items m.number ≡ Some (T.Instance i)
@@ -174,15 +178,37 @@ module _ (s : Sense) (table : Made) (x : Sources) (k : AreSources s table x) whe
   origin_of p o u (is_of {u = v} h) e = subst (IsOriginOf k.made.more p) (same_some e) h
   origin_of p o u no_type e = cc
   origin_of p o u may_be_group e = cc
+  origin_of p o u in_its_place e = cc
+
+  no_origin : {p : Piece} {u : TypeOrigin} → IsOriginOf k.made.more p u → {r : Around} {q : Piece} → p ≡ a_key r q → ⊥
+  no_origin (of_type h) e = cc
+  no_origin (of_token h) e = cc
+  no_origin (of_keyed h) e = cc
+
+  -- the type of a value is of one
+  value_is_of : {p : Piece} {o : Option TypeOrigin} → MayBeOf k.made.more p o → o ≡ None → (r : Around) (q : Piece) (z : S.Types) → p ≡ a_value r q z → ⊥
+  value_is_of (is_of h) e r q z f = cc
+  value_is_of no_type e r q z f = cc
+  value_is_of may_be_group e r q z f = cc
+  value_is_of in_its_place e r q z f = cc
+
+  -- what an entry has as its key is of nothing in its place
+  place_alone : {p : Piece} {o : Option TypeOrigin} → MayBeOf k.made.more p o → {r : Around} {q : Piece} → p ≡ a_key r q → o ≡ None
+  place_alone (is_of h) e = absurd (no_origin h e)
+  place_alone no_type e = refl
+  place_alone may_be_group e = refl
+  place_alone in_its_place e = refl
 
   type_origin : (p : Piece) (m : Link) → IsOf (rules_of s.tree) (IsNameOfType s k.terms k.nodes) p m → (o : Option TypeOrigin) → MayBeOf k.made.more p o → (u : TypeOrigin) × (origin_at x m ≡ Some u) × (o ≡ Some u)
   type_origin p (L.Alternative i) h o d = absurd h.2
   type_origin p (L.Entry i) h o d = absurd h.2
+  type_origin p (L.Key i) h o d = absurd h.2
   type_origin p (L.Type m) h o (is_of {u = v} d) =
       let is = h.2 in
       (is.origin, ap (λ os. slice_get os m.number) k.made.origins ∙ is.there, ap Some (same_origin p v d h.0 is.origin h.1 is.named))
   type_origin p (L.Type m) h o no_type = absurd (no_some h.1)
   type_origin p (L.Type m) h o may_be_group = absurd (no_some h.1)
+  type_origin p (L.Type m) h o in_its_place = absurd (no_some h.1)
 
   -- what is found stands there
 
@@ -305,6 +331,7 @@ module _ (s : Sense) (table : Made) (x : Sources) (k : AreSources s table x) whe
           }
       by (a_type z) b g there = absurd (some_none (sym h.is.there ∙ g))
       by (a_word w) b g there = absurd (some_none (sym h.is.there ∙ g))
+      by (a_key r q) b g there = absurd (some_none (sym h.is.there ∙ g))
       by (a_value r q z) b g there = absurd (some_none (sym h.is.there ∙ g))
       by (a_member r z) b g there = absurd (some_none (sym h.is.there ∙ g))
 
@@ -367,6 +394,7 @@ module _ (s : Sense) (table : Made) (x : Sources) (k : AreSources s table x) whe
       by (an_entry (brackets o c) l z e) b g there is = absurd (some_none (sym b.1 ∙ h.is.round))
       by (a_type z) b g there is = absurd (some_none (sym h.is.is.there ∙ g))
       by (a_word w) b g there is = absurd (some_none (sym h.is.is.there ∙ g))
+      by (a_key r q) b g there is = absurd (some_none (sym h.is.is.there ∙ g))
       by (a_value r q z) b g there is = absurd (some_none (sym h.is.is.there ∙ g))
       by (a_member r z) b g there is = absurd (some_none (sym h.is.is.there ∙ g))
 
@@ -453,6 +481,7 @@ module _ (s : Sense) (table : Made) (x : Sources) (k : AreSources s table x) whe
       by (an_entry r j i z) is g b f = absurd (some_none (sym g.1 ∙ m.alone))
       by (a_type z) is g b f = cc
       by (a_word w) is g b f = cc
+      by (a_key r q) is g b f = cc
       by (a_value r q z) is g b f = cc
 
   member_stands : (a : PieceAt) (st : IsThere k.made.more (rules_of s.tree) a) (p : Piece) → st.piece ≡ p → (h : Stands (rules_of s.tree) (IsNameOfType s k.terms k.nodes) p (spot a)) × (h.rule ≡ st.rule)
@@ -504,11 +533,11 @@ module _ (s : Sense) (table : Made) (x : Sources) (k : AreSources s table x) whe
         let st = k.made.pieces.each a h.is.contained in
         record { piece = st.piece; stands = stands_at from a h.inside st; is = named_piece st.piece h.origin m h.there (origin_of st.piece a.origin h.origin st.is.origin h.is.same) }
 
-    stands_in : (from : Option PieceAt) (a : PieceAt) → IsValueFrom x n from a → (st : IsThere k.made.more (rules_of s.tree) a) (r : Around) → AreRound r a.around → StandsIn (rules_of s.tree) (IsNameOfType s k.terms k.nodes) y (option_map spot from) r st.piece (spot a)
+    stands_in : (from : Option PieceAt) (a : PieceAt) → IsInMapFrom x n from a → (st : IsThere k.made.more (rules_of s.tree) a) (r : Around) → AreRound r a.around → StandsIn (rules_of s.tree) (IsNameOfType s k.terms k.nodes) y (option_map spot from) r st.piece (spot a)
     stands_in None a h st r b = let w = stands_at None a h st in in_a_rule w.0 w.1
-    stands_in (Some o) a (value_in_map h) st r b = in_map (stands a st) h.0 (round_ends o r a.around b h.1)
-    stands_in (Some o) a (value_in_group {n = m} h g) st (brackets l c) b = absurd (some_none (sym b.1 ∙ h.0))
-    stands_in (Some o) a (value_in_group {n = m} h g) st the_rule b = in_group (stands a st) (spliced_at o g (name_in st.rule) (body_name a m st h.1))
+    stands_in (Some o) a (in_its_brackets h) st r b = in_map (stands a st) h.0 (round_ends o r a.around b h.1)
+    stands_in (Some o) a (in_its_group {n = m} h g) st (brackets l c) b = absurd (some_none (sym b.1 ∙ h.0))
+    stands_in (Some o) a (in_its_group {n = m} h g) st the_rule b = in_group (stands a st) (spliced_at o g (name_in st.rule) (body_name a m st h.1))
 
     value_at : (from : Option PieceAt) (key m : Link) (a : PieceAt) → IsValueIn x n from key m a → IsValueAt (rules_of s.tree) (IsNameOfType s k.terms k.nodes) y (option_map spot from) key m (spot a)
     value_at from key m a h = by st.piece st.is.key st.is.around (stands_in from a h.inside st) (named_piece st.piece h.origin m h.there (origin_of st.piece a.origin h.origin st.is.origin h.is.same))
@@ -520,8 +549,27 @@ module _ (s : Sense) (table : Made) (x : Sources) (k : AreSources s table x) whe
         by (a_value r q z) g b there is = record { around = r; key_piece = q; types = z; stands = there r b; is_key = named_piece q h.key_origin key h.key_there (origin_of q a.key h.key_origin g h.same); is = is }
         by (a_type z) g b there is = absurd (some_none (sym h.same ∙ g))
         by (a_word w) g b there is = absurd (some_none (sym h.same ∙ g))
+        by (a_key r q) g b there is = absurd (no_some is.1)
         by (a_member o z) g b there is = absurd (some_none (sym h.same ∙ g))
         by (an_entry o j i e) g b there is = absurd (some_none (sym h.same ∙ g))
+
+    key_at : (from : Option PieceAt) (key : TypeId) (a : PieceAt) → IsKeyIn x n from key a → IsKeyAt (rules_of s.tree) (IsNameOfType s k.terms k.nodes) y (option_map spot from) key (spot a)
+    key_at from key a h = by st.piece st.is.origin st.is.key st.is.around (stands_in from a h.inside st)
+      where
+        st : IsThere k.made.more (rules_of s.tree) a
+        st = k.made.pieces.each a h.is.contained
+
+        by : (p : Piece) → MayBeOf k.made.more p a.origin → IsKeyOf k.made.more p a.key → AreRoundIt p a.around → ((r : Around) → AreRound r a.around → StandsIn (rules_of s.tree) (IsNameOfType s k.terms k.nodes) y (option_map spot from) r p (spot a)) → IsKeyAt (rules_of s.tree) (IsNameOfType s k.terms k.nodes) y (option_map spot from) key (spot a)
+        by (a_key r q) d g b there = record { around = r; key_piece = q; stands = there r b; is = named_piece q h.origin (L.Type key) h.there (origin_of q a.key h.origin g h.is.same) }
+        by (a_value r q z) d g b there = absurd (value_is_of d h.is.alone r q z refl)
+        by (a_type z) d g b there = absurd (some_none (sym h.is.same ∙ g))
+        by (a_word w) d g b there = absurd (some_none (sym h.is.same ∙ g))
+        by (a_member o z) d g b there = absurd (some_none (sym h.is.same ∙ g))
+        by (an_entry o j i e) d g b there = absurd (some_none (sym h.is.same ∙ g))
+
+    one_at : (from : Option PieceAt) (m : Link) (a : PieceAt) → IsOneIn x n from m a → IsOneAt (rules_of s.tree) (IsNameOfType s k.terms k.nodes) y (option_map spot from) m (spot a)
+    one_at from m a (by_type t) = of_one_type (type_at from m a t)
+    one_at from m a (by_key {key = i} h) = of_key (key_at from i a h)
 
     pair_at : (from : Option PieceAt) (first second : Link) (a : PieceAt) → ArePairIn x n from first second a → ArePairAt (rules_of s.tree) (IsNameOfType s k.terms k.nodes) y (option_map spot from) first second (spot a)
     pair_at from first second a (by_value v) = of_value (value_at from first second a v)
@@ -543,23 +591,34 @@ module _ (s : Sense) (table : Made) (x : Sources) (k : AreSources s table x) whe
         let o = type_origin h.piece m h.is w.0.origin w.3.origin in
         (w.0, record { origin = o.0; there = o.1; is = record { contained = w.1; same = o.2 }; inside = w.2 })
 
-    found_in : (from : Option PieceAt) (r : Around) (q : Piece) (z : S.Types) (at : Spot) → StandsIn (rules_of s.tree) (IsNameOfType s k.terms k.nodes) y (option_map spot from) r (a_value r q z) at → (a : PieceAt) × Contains x.pieces.items a × IsValueFrom x n from a × IsPieceAt k.made.more (a_value r q z) a
-    found_in None r q z at (in_a_rule h g) = found_at None (a_value r q z) at (h, g)
-    found_in (Some o) r q z at (in_map h rule ends) =
-        let w = piece_there (a_value r q z) at h in
-        (w.0, w.1, value_in_map (ap (λ (z : Spot). z.rule) w.2 ∙ rule, ends_round o r w.0.around ends w.3.around), w.3)
-    found_in (Some o) r q z at (in_group h g) =
-        let w = piece_there (a_value the_rule q z) at h in
+    -- a key or a value, which have in a map what is round the map's group
+    found_in : (from : Option PieceAt) (r : Around) (p : Piece) (at : Spot) → ((m : Option Span) → AreRoundIt p m → AreRound r m) → StandsIn (rules_of s.tree) (IsNameOfType s k.terms k.nodes) y (option_map spot from) r p at → (a : PieceAt) × Contains x.pieces.items a × IsInMapFrom x n from a × IsPieceAt k.made.more p a
+    found_in None r p at round (in_a_rule h g) = found_at None p at (h, g)
+    found_in (Some o) r p at round (in_map h rule ends) =
+        let w = piece_there p at h in
+        (w.0, w.1, in_its_brackets (ap (λ (z : Spot). z.rule) w.2 ∙ rule, ends_round o r w.0.around ends (round w.0.around w.3.around)), w.3)
+    found_in (Some o) r p at round (in_group h g) =
+        let w = piece_there p at h in
         let m = spliced_in o g in
-        (w.0, w.1, value_in_group (w.3.around, rule_number w.0.rule at.rule m.0 (name_in h.rule) h.rule (ap (λ (z : Spot). z.rule) w.2) h.there refl m.1) m.2, w.3)
+        (w.0, w.1, in_its_group (round w.0.around w.3.around, rule_number w.0.rule at.rule m.0 (name_in h.rule) h.rule (ap (λ (z : Spot). z.rule) w.2) h.there refl m.1) m.2, w.3)
 
     value_in : (from : Option PieceAt) (key m : Link) (at : Spot) → IsValueAt (rules_of s.tree) (IsNameOfType s k.terms k.nodes) y (option_map spot from) key m at → (a : PieceAt) × IsValueIn x n from key m a
     value_in from key m at h =
         let p : Piece = a_value h.around h.key_piece h.types in
-        let w = found_in from h.around h.key_piece h.types at h.stands in
+        let w = found_in from h.around p at (λ m b. b) h.stands in
         let o = type_origin p m h.is w.0.origin w.3.origin in
         let u = type_origin h.key_piece key h.is_key w.0.key w.3.key in
         (w.0, record { key_origin = u.0; key_there = u.1; same = u.2; origin = o.0; there = o.1; is = record { contained = w.1; same = o.2 }; inside = w.2 })
+
+    key_in : (from : Option PieceAt) (key : TypeId) (at : Spot) → IsKeyAt (rules_of s.tree) (IsNameOfType s k.terms k.nodes) y (option_map spot from) key at → (a : PieceAt) × IsKeyIn x n from key a
+    key_in from key at h =
+        let w = found_in from h.around (a_key h.around h.key_piece) at (λ m b. b) h.stands in
+        let u = type_origin h.key_piece (L.Type key) h.is w.0.key w.3.key in
+        (w.0, record { origin = u.0; there = u.1; is = record { contained = w.1; alone = place_alone w.3.origin refl; same = u.2 }; inside = w.2 })
+
+    one_in : (from : Option PieceAt) (m : Link) (at : Spot) → IsOneAt (rules_of s.tree) (IsNameOfType s k.terms k.nodes) y (option_map spot from) m at → (a : PieceAt) × IsOneIn x n from m a
+    one_in from m at (of_one_type t) = let w = type_in from m at t in (w.0, by_type w.1)
+    one_in from m at (of_key {key = i} h) = let w = key_in from i at h in (w.0, by_key w.1)
 
     pair_in : (from : Option PieceAt) (first second : Link) (at : Spot) → ArePairAt (rules_of s.tree) (IsNameOfType s k.terms k.nodes) y (option_map spot from) first second at → (a : PieceAt) × ArePairIn x n from first second a
     pair_in from first second at (of_value v) = let w = value_in from first second at v in (w.0, by_value w.1)
@@ -573,8 +632,8 @@ module _ (s : Sense) (table : Made) (x : Sources) (k : AreSources s table x) whe
     leads : {from to : Option PieceAt} {ms : List Link} → LeadsIn x n from ms to → Leads (rules_of s.tree) (IsNameOfType s k.terms k.nodes) y (option_map spot from) ms (option_map spot to)
     leads by_none = arrives
     leads (by_pair {from = from} {key = key} {m = m} {a = a} v l) = to_pair (pair_at from key m a v) (leads l)
-    leads (by_type {from = from} {m = m} {ms = ms} {a = a} none t l) = to_type (no_pair from m ms none) (type_at from m a t) (leads l)
-    leads (gone_by {from = from} {m = m} {ms = ms} none t l) = passes (no_pair from m ms none) (λ at h. let w = type_in from m at h in t w.0 w.1) (leads l)
+    leads (by_one {from = from} {m = m} {ms = ms} {a = a} none t l) = to_one (no_pair from m ms none) (one_at from m a t) (leads l)
+    leads (gone_by {from = from} {m = m} {ms = ms} none t l) = passes (no_pair from m ms none) (λ at h. let w = one_in from m at h in t w.0 w.1) (leads l)
 
   -- a state after links tells the place of the last of them
   pub is_place : (chain : List Link) (st : State) (found : Option PieceAt) (p : Place) → ((ids : List Link) → IsFoundAfter x st ids → LeadsIn x st.number None ids found) → IsStateAfter x chain st → IsTold x st found p → IsPlace (rules_of s.tree) (IsNameOfType s k.terms k.nodes) chain p

@@ -9,7 +9,7 @@ use Rattle.table_making.specs.declared.origin.TypeOrigin.TheVariants as T
 use Rattle.table_nodes.specs.declared.nodes.TypeId.{TypeId}
 use Rattle.type_links.specs.declared.link.Link.{Link}
 use Rattle.type_links.specs.declared.link.Link.TheVariants as L
-use Rattle.cddl_sources.specs.States.{ArePairIn, ArePassed, HasNoRule, HasNumber, IsAlternative, IsEntryNamed, IsEntryOf, IsEntryOfRule, IsEntryWithin, IsFoundAfter, IsFrom, IsRuleIn, IsOfOrigin, IsStarted, IsStateAfter, IsStateOf, IsTypeIn, IsValueFrom, IsValueIn, LeadsIn, arrives, count_in, counted, named, of_entry, of_value, origin_at, passes, to_pair, to_type, value_in_group, value_in_map, with_held, within}
+use Rattle.cddl_sources.specs.States.{ArePairIn, ArePassed, HasNoRule, HasNumber, IsAlternative, IsEntryNamed, IsEntryOf, IsEntryOfRule, IsEntryWithin, IsFoundAfter, IsFrom, IsKeyIn, IsKeyPlace, IsOneIn, IsRuleIn, IsOfOrigin, IsStarted, IsStateAfter, IsStateOf, IsTypeIn, IsInMapFrom, IsValueIn, LeadsIn, arrives, count_in, counted, named, of_entry, of_key, of_type, of_value, origin_at, passes, to_one, to_pair, in_its_group, in_its_brackets, with_held, within}
 use Rattle.cddl_sources.specs.declared.piece.PieceAt.{PieceAt}
 use Rattle.cddl_sources.specs.declared.place.State.{State}
 use Rattle.cddl_sources.specs.declared.sources.RuleAt.{RuleAt}
@@ -102,10 +102,10 @@ from_rule : (x : Sources) (n : ℕ) (from : Option PieceAt) (a : PieceAt) → Is
 from_rule x n None a h g = (h.at, h.there)
 from_rule x n (Some o) a h g = (g.0, ap (slice_get x.rules.items) h.0 ∙ g.1)
 
-value_rule : (x : Sources) (n : ℕ) (from : Option PieceAt) (a : PieceAt) → IsValueFrom x n from a → IfSome from (λ b. IsRuleIn x b.rule) → IsRuleIn x a.rule
-value_rule x n None a h g = (h.at, h.there)
-value_rule x n (Some o) a (value_in_map h) g = (g.0, ap (slice_get x.rules.items) h.0 ∙ g.1)
-value_rule x n (Some o) a (value_in_group h s) g = (h.1.at, h.1.there)
+map_rule : (x : Sources) (n : ℕ) (from : Option PieceAt) (a : PieceAt) → IsInMapFrom x n from a → IfSome from (λ b. IsRuleIn x b.rule) → IsRuleIn x a.rule
+map_rule x n None a h g = (h.at, h.there)
+map_rule x n (Some o) a (in_its_brackets h) g = (g.0, ap (slice_get x.rules.items) h.0 ∙ g.1)
+map_rule x n (Some o) a (in_its_group h s) g = (h.1.at, h.1.there)
 
 counted_rule : (x : Sources) (n own i : ℕ) → own < count_in n (slice_get x.rules.items i) → IsRuleIn x i
 counted_rule x n own i h = by (slice_get x.rules.items i) refl h
@@ -119,14 +119,18 @@ entry_rule x (within h) g = (g.0, ap (slice_get x.rules.items) h.rule ∙ g.1)
 entry_rule x {a = a} (named h) g = counted_rule x h.name h.own a.rule h.is_alternative.less
 
 pair_rule : (x : Sources) (n : ℕ) {from : Option PieceAt} {first second : Link} {a : PieceAt} → ArePairIn x n from first second a → IfSome from (λ b. IsRuleIn x b.rule) → IsRuleIn x a.rule
-pair_rule x n (of_value v) g = value_rule x n _ _ v.inside g
+pair_rule x n (of_value v) g = map_rule x n _ _ v.inside g
 pair_rule x n (of_entry e) g = entry_rule x e g
+
+one_rule : (x : Sources) (n : ℕ) {from : Option PieceAt} {m : Link} {a : PieceAt} → IsOneIn x n from m a → IfSome from (λ b. IsRuleIn x b.rule) → IsRuleIn x a.rule
+one_rule x n (of_type t) g = from_rule x n _ _ t.inside g
+one_rule x n (of_key k) g = map_rule x n _ _ k.inside g
 
 -- what was found is in a rule
 found_from : (x : Sources) (n : ℕ) {from to : Option PieceAt} {ms : List Link} → LeadsIn x n from ms to → IfSome from (λ a. IsRuleIn x a.rule) → IfSome to (λ a. IsRuleIn x a.rule)
 found_from x n arrives h = h
 found_from x n (to_pair v l) h = found_from x n l (pair_rule x n v h)
-found_from x n (to_type none t l) h = found_from x n l (from_rule x n _ _ t.inside h)
+found_from x n (to_one none t l) h = found_from x n l (one_rule x n t h)
 found_from x n (passes none t l) h = found_from x n l h
 
 pub found_there : (x : Sources) (n : ℕ) (ids : List Link) (o : Option PieceAt) → LeadsIn x n None ids o → IfSome o (λ a. IsRuleIn x a.rule)
@@ -143,11 +147,20 @@ of_same x a o p e h = record { contained = h.contained; same = h.same ∙ ap Som
 pub no_type : (x : Sources) (n : ℕ) (from : Option PieceAt) (id : Link) (a : PieceAt) {o : TypeOrigin} → origin_at x id ≡ Some o → ((b : PieceAt) → IsOfOrigin x o b → IsFrom x n from b → ⊥) → IsTypeIn x n from id a → ⊥
 no_type x n from id a {o = o} there none h = none a (of_same x a h.origin o (same_some (sym h.there ∙ there)) h.is) h.inside
 
-pub any_value : (x : Sources) (n : ℕ) (from : Option PieceAt) (key id : Link) (a : PieceAt) {k o : TypeOrigin} → origin_at x key ≡ Some k → origin_at x id ≡ Some o → IsOfOrigin x o a → IsValueFrom x n from a → a.key ≡ Some k → IsValueIn x n from key id a
+pub any_value : (x : Sources) (n : ℕ) (from : Option PieceAt) (key id : Link) (a : PieceAt) {k o : TypeOrigin} → origin_at x key ≡ Some k → origin_at x id ≡ Some o → IsOfOrigin x o a → IsInMapFrom x n from a → a.key ≡ Some k → IsValueIn x n from key id a
 any_value x n from key id a {k = k} {o = o} there is_there is inside same = record { key_origin = k; key_there = there; same = same; origin = o; there = is_there; is = is; inside = inside }
 
-pub no_value : (x : Sources) (n : ℕ) (from : Option PieceAt) (key id : Link) (a : PieceAt) {k o : TypeOrigin} → origin_at x key ≡ Some k → origin_at x id ≡ Some o → ((b : PieceAt) → IsOfOrigin x o b → IsValueFrom x n from b → b.key ≡ Some k → ⊥) → IsValueIn x n from key id a → ⊥
+pub no_value : (x : Sources) (n : ℕ) (from : Option PieceAt) (key id : Link) (a : PieceAt) {k o : TypeOrigin} → origin_at x key ≡ Some k → origin_at x id ≡ Some o → ((b : PieceAt) → IsOfOrigin x o b → IsInMapFrom x n from b → b.key ≡ Some k → ⊥) → IsValueIn x n from key id a → ⊥
 no_value x n from key id a {k = k} {o = o} there is_there none h = none a (of_same x a h.origin o (same_some (sym h.there ∙ is_there)) h.is) h.inside (h.same ∙ ap Some (same_some (sym h.key_there ∙ there)))
+
+pub any_key : (x : Sources) (n : ℕ) (from : Option PieceAt) (key : TypeId) (a : PieceAt) {o : TypeOrigin} → origin_at x (L.Type key) ≡ Some o → IsKeyPlace x o a → IsInMapFrom x n from a → IsKeyIn x n from key a
+any_key x n from key a {o = o} there is inside = record { origin = o; there = there; is = is; inside = inside }
+
+pub no_key : (x : Sources) (n : ℕ) (from : Option PieceAt) (key : TypeId) (a : PieceAt) {o : TypeOrigin} → origin_at x (L.Type key) ≡ Some o → ((b : PieceAt) → IsKeyPlace x o b → IsInMapFrom x n from b → ⊥) → IsKeyIn x n from key a → ⊥
+no_key x n from key a {o = o} there none h = none a (subst (λ (p : TypeOrigin). IsKeyPlace x p a) (same_some (sym h.there ∙ there)) h.is) h.inside
+
+same_key : {j k : TypeId} → L.Key j ≡ L.Key k → j ≡ k
+same_key e = cc
 
 same_alternative : {j k : ℕ} → L.Alternative j ≡ L.Alternative k → j ≡ k
 same_alternative e = cc
@@ -259,6 +272,28 @@ no_pair_type x n from first second a e f (of_entry h) = cc
 pub no_pair_alternative : (x : Sources) (n : ℕ) (from : Option PieceAt) (first second : Link) (a : PieceAt) {k j : ℕ} → first ≡ L.Alternative k → second ≡ L.Alternative j → ArePairIn x n from first second a → ⊥
 no_pair_alternative x n from first second a e f (of_value v) = no_some (sym (ap (origin_at x) e) ∙ v.key_there)
 no_pair_alternative x n from first second a e f (of_entry h) = cc
+
+pub no_pair_key : (x : Sources) (n : ℕ) (from : Option PieceAt) (first second : Link) (a : PieceAt) {m : TypeId} → first ≡ L.Key m → ArePairIn x n from first second a → ⊥
+no_pair_key x n from first second a e (of_value v) = no_some (sym (ap (origin_at x) e) ∙ v.key_there)
+no_pair_key x n from first second a e (of_entry h) = cc
+
+-- what one link leads to by itself, by the form that it has
+
+pub one_type : (x : Sources) (n : ℕ) (from : Option PieceAt) (m : Link) (a : PieceAt) {t : TypeId} → m ≡ L.Type t → IsOneIn x n from m a → IsTypeIn x n from m a
+one_type x n from m a e (of_type t) = t
+one_type x n from m a e (of_key h) = cc
+
+pub one_key : (x : Sources) (n : ℕ) (from : Option PieceAt) (m : Link) (a : PieceAt) {key : TypeId} → m ≡ L.Key key → IsOneIn x n from m a → IsKeyIn x n from key a
+one_key x n from m a e (of_type t) = absurd (no_some (sym (ap (origin_at x) e) ∙ t.there))
+one_key x n from m a e (of_key h) = subst (λ (i : TypeId). IsKeyIn x n from i a) (same_key e) h
+
+pub no_one_alternative : (x : Sources) (n : ℕ) (from : Option PieceAt) (m : Link) (a : PieceAt) {k : ℕ} → m ≡ L.Alternative k → IsOneIn x n from m a → ⊥
+no_one_alternative x n from m a e (of_type t) = no_some (sym (ap (origin_at x) e) ∙ t.there)
+no_one_alternative x n from m a e (of_key h) = cc
+
+pub no_one_entry : (x : Sources) (n : ℕ) (from : Option PieceAt) (m : Link) (a : PieceAt) {i : ℕ} → m ≡ L.Entry i → IsOneIn x n from m a → ⊥
+no_one_entry x n from m a e (of_type t) = no_some (sym (ap (origin_at x) e) ∙ t.there)
+no_one_entry x n from m a e (of_key h) = cc
 
 pub some_then : {A : Type 0} (o : Option A) (P Q : A → Type 0) → ((a : A) → P a → Q a) → IfSome o P → IfSome o Q
 some_then None P Q f h = tt

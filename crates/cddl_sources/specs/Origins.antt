@@ -9,7 +9,7 @@ use Rattle.check_terms.specs.Table.{Table}
 use Rattle.check_terms.specs.Trees.{IsTerm}
 use Rattle.table_making.specs.declared.origin.TypeOrigin.{TypeOrigin}
 use Rattle.table_making.specs.declared.origin.TypeOrigin.TheVariants as T
-use Rattle.cddl_sources.specs.Pieces.{Around, Inner, Piece, a_member, a_type, a_value, a_word, an_entry, brackets, in_rule, name_there, the_rule, tokens_of_piece}
+use Rattle.cddl_sources.specs.Pieces.{Around, Inner, Piece, a_key, a_member, a_type, a_value, a_word, an_entry, brackets, in_rule, name_there, the_rule, tokens_of_piece}
 use Rattle.cddl_sources.specs.Spans.{IsSpan}
 use Rattle.cddl_sources.specs.Walk.{view_found}
 use Rattle.cddl_sources.specs.declared.node.Found.{Found}
@@ -22,14 +22,16 @@ pub data IsOriginOf (t : Table) : Piece → TypeOrigin → Type 0 where
   of_word : {w : Token} {k : ℕ} → slice_get t.texts k ≡ Some (text_of w) → IsOriginOf t (a_word w) (T.Word k)
   of_value : {a : Around} {k : Piece} {x : S.Types} {n : ℕ} → IsTerm t n (term_of x) → IsOriginOf t (a_value a k x) (T.Row n)
 
--- what the piece is of, which an entry is not, nor a member
+-- what the piece is of, which an entry is not, nor a member, nor what an entry has as its key
 pub data MayBeOf (t : Table) : Piece → Option TypeOrigin → Type 0 where
   is_of : {p : Piece} {u : TypeOrigin} → IsOriginOf t p u → MayBeOf t p (Some u)
   no_type : {a : Around} {k i : ℕ} {e : Inner} → MayBeOf t (an_entry a k i e) None
   may_be_group : {a : Around} {x : S.Types} → MayBeOf t (a_member a x) None
+  in_its_place : {a : Around} {k : Piece} → MayBeOf t (a_key a k) None
 
--- what the key is of, where the piece is a value's type
+-- what the key is of, where the piece is that of an entry or a value's type
 abbrev pub IsKeyOf : Table → Piece → Option TypeOrigin → Type 0
+IsKeyOf t (a_key a k) o = MayBeOf t k o
 IsKeyOf t (a_value a k x) o = MayBeOf t k o
 IsKeyOf t (a_type x) o = o ≡ None
 IsKeyOf t (a_word w) o = o ≡ None
@@ -41,9 +43,10 @@ abbrev pub AreRound : Around → Option Span → Type 0
 AreRound (brackets o c) m = (b : Span) × (m ≡ Some b) × (b.first ≡ o.start) × (b.end ≡ c.end)
 AreRound the_rule m = m ≡ None
 
--- the same of the group of an entry or of a member, and of the map's group in which a value is
+-- the same of the group of an entry or of a member, and of the map's group in which a key or a value is
 abbrev pub AreRoundIt : Piece → Option Span → Type 0
 AreRoundIt (an_entry a k i e) m = AreRound a m
+AreRoundIt (a_key a k) m = AreRound a m
 AreRoundIt (a_value a k x) m = AreRound a m
 AreRoundIt (a_member a x) m = AreRound a m
 AreRoundIt (a_type x) m = m ≡ None
@@ -59,6 +62,7 @@ abbrev pub MayBeIn : Piece → Option EntryAt → Type 0
 MayBeIn (an_entry a k i e) m = (at : EntryAt) × (m ≡ Some at) × IsEntryIn k i at
 MayBeIn (a_type x) m = m ≡ None
 MayBeIn (a_word w) m = m ≡ None
+MayBeIn (a_key a k) m = m ≡ None
 MayBeIn (a_value a k x) m = m ≡ None
 MayBeIn (a_member a x) m = m ≡ None
 

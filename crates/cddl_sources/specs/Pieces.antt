@@ -23,12 +23,13 @@ inner_of (S.typed o t) = of_types t
 inner_of (S.keyed o k t) = of_types t
 inner_of (S.grouped o p g c) = of_group p g c
 
--- a type; a bareword that is a key; the type of the value in an entry that has this key, with what is round the map's group; an entry
--- without a key, with what is round its group; or an entry of a group, with so many alternatives after its own, and so many entries
--- after it there
+-- a type; a bareword that is a key; what an entry has as its key, and the type of the value in an entry that has this key, with what is
+-- round the map's group; an entry without a key, with what is round its group; or an entry of a group, with so many alternatives after
+-- its own, and so many entries after it there
 pub data Piece : Type 0 where
   a_type : S.Types → Piece
   a_word : Token → Piece
+  a_key : Around → (key : Piece) → Piece
   a_value : Around → (key : Piece) → S.Types → Piece
   a_member : Around → S.Types → Piece
   an_entry : Around → (alternative place : ℕ) → Inner → Piece
@@ -122,7 +123,7 @@ abbrev mutual
 
   pub in_entry : Around → S.GrpEnt → List Piece
   in_entry a (S.typed o t) = a_member a t ∷ in_types t
-  in_entry a (S.keyed o k t) = in_key k ++ (a_value a (key_piece k) t ∷ in_types t)
+  in_entry a (S.keyed o k t) = in_key k ++ (a_key a (key_piece k) ∷ a_value a (key_piece k) t ∷ in_types t)
   in_entry a (S.grouped o p g c) = entries_in (brackets p c) 0 g ++ in_group a g
 
   pub in_key : S.MemberKey → List Piece
@@ -142,10 +143,12 @@ abbrev pub rule_by_rule : ℕ → List S.Rule → List (ℕ × Piece)
 rule_by_rule k [] = []
 rule_by_rule k (r ∷ rs) = placed k (in_rule r) ++ rule_by_rule (k + 1) rs
 
--- The name of a table's type that is of it, where the rule has no parameters in it. An entry is no type, and a member may be a group.
+-- The name of a table's type that is of it, where the rule has no parameters in it. An entry is no type, a member may be a group, and
+-- what an entry has as its key is a type or a word in a place of its own.
 abbrev pub name_of_piece : Piece → Option TypeName
 name_of_piece (a_type x) = Some (type (term_of x))
 name_of_piece (a_word t) = Some (word (text_of t))
+name_of_piece (a_key a k) = None
 name_of_piece (a_value a k x) = Some (type (term_of x))
 name_of_piece (a_member a x) = None
 name_of_piece (an_entry a k i e) = None
@@ -208,6 +211,7 @@ name_there (an_entry a k i (of_types t)) = name_of_types (bare_types t)
 name_there (an_entry a k i (of_group o g c)) = None
 name_there (a_type x) = None
 name_there (a_word t) = None
+name_there (a_key a k) = None
 name_there (a_value a k x) = None
 name_there (a_member a x) = name_of_types (bare_types x)
 
@@ -219,6 +223,7 @@ tokens_of_inner (of_group o g c) = (ParenOpen, o) ∷ (S.flat_group g ++ (ParenC
 abbrev pub tokens_of_piece : Piece → List S.Lexeme
 tokens_of_piece (a_type x) = S.flat_types (bare_types x)
 tokens_of_piece (a_word t) = (Name, t) ∷ []
+tokens_of_piece (a_key a k) = tokens_of_piece k
 tokens_of_piece (a_value a k x) = S.flat_types (bare_types x)
 tokens_of_piece (a_member a x) = S.flat_types (bare_types x)
 tokens_of_piece (an_entry a k i e) = tokens_of_inner e

@@ -8,16 +8,17 @@ use Rattle.cddl_language.specs.Terms.{Ref, Text, name_of}
 use Rattle.table_nodes.specs.declared.nodes.TypeId.{TypeId}
 use Rattle.type_links.specs.declared.link.Link.{Link}
 use Rattle.type_links.specs.declared.link.Link.TheVariants as L
-use Rattle.cddl_sources.specs.Pieces.{Around, Inner, Piece, a_member, a_value, alternatives_of, an_entry, brackets, in_rule, name_of_piece, name_there, the_rule, tokens_of_piece}
+use Rattle.cddl_sources.specs.Pieces.{Around, Inner, Piece, a_key, a_member, a_value, alternatives_of, an_entry, brackets, in_rule, name_of_piece, name_there, the_rule, tokens_of_piece}
 use Rattle.cddl_sources.specs.Spans.{IsNameSpan, IsSpan, IsWithin, Spot, body_tokens}
 use Rattle.cddl_sources.specs.declared.place.Place.{Place}
 use Rattle.cddl_sources.specs.declared.span.Span.{Span}
 
--- the link is to a type that stands for this name
+-- the link is to a type that stands for this name; the key of an entry is what it is in its place there, and begins no rule
 abbrev pub LeadsTo : (TypeName → TypeId → Type 0) → TypeName → Link → Type 0
 LeadsTo names y (L.Type m) = names y m
 LeadsTo names y (L.Alternative k) = ⊥
 LeadsTo names y (L.Entry k) = ⊥
+LeadsTo names y (L.Key m) = ⊥
 
 -- what is round a group are the ends of this part of the text
 pub data AreEnds (o : Spot) : Around → Type 0 where
@@ -68,6 +69,13 @@ module _ (rules : List S.Rule) (names : TypeName → TypeId → Type 0) where
     in_map : {map at : Spot} {a : Around} {p : Piece} → Stands p at → at.rule ≡ map.rule → AreEnds map a → StandsIn n (Some map) a p at
     in_group : {map at : Spot} {p : Piece} → (h : Stands p at) → IsSpliced map (name_in h.rule) → StandsIn n (Some map) the_rule p at
 
+  -- the key of an entry of the map that has this type as its key
+  pub record IsKeyAt (n : Text) (from : Option Spot) (key : TypeId) (at : Spot) : Type 0 where
+    pub around : Around
+    pub key_piece : Piece
+    pub stands : StandsIn n from around (a_key around key_piece) at
+    pub is : IsOf key_piece (L.Type key)
+
   -- the value's type in an entry of the map that has these types as its key and as its value
   pub record IsValueAt (n : Text) (from : Option Spot) (key m : Link) (at : Spot) : Type 0 where
     pub around : Around
@@ -115,19 +123,24 @@ module _ (rules : List S.Rule) (names : TypeName → TypeId → Type 0) where
     of_value : {key m : Link} {at : Spot} → IsValueAt n from key m at → ArePairAt n from key m at
     of_entry : {k i : ℕ} {at : Spot} → IsEntryAt from k i at → ArePairAt n from (L.Alternative k) (L.Entry i) at
 
+  -- One link leads there by itself: to a type, or to the key of an entry.
+  pub data IsOneAt (n : Text) (from : Option Spot) : Link → Spot → Type 0 where
+    of_type : {m : Link} {at : Spot} → IsTypeAt n from m at → IsOneAt n from m at
+    of_key : {key : TypeId} {at : Spot} → IsKeyAt n from key at → IsOneAt n from (L.Key key) at
+
   -- this link and the next one lead nowhere together
   abbrev pub AreNoPair : Text → Option Spot → Link → List Link → Type 0
   AreNoPair n from m [] = Unit {0}
   AreNoPair n from m (v ∷ ms) = (at : Spot) → ArePairAt n from m v at → ⊥
 
   -- From a part of the text, or from all rules of the name, links lead on: the key and the value of an entry to the value's type, an
-  -- alternative of a group and an entry of it to this entry, any other type to where it stands there; and what does not stand there
-  -- leads to nothing more.
+  -- alternative of a group and an entry of it to this entry, the key of an entry by itself to this key, any other type to where it
+  -- stands there; and what does not stand there leads to nothing more.
   pub data Leads (n : Text) : Option Spot → List Link → Option Spot → Type 0 where
     arrives : {from : Option Spot} → Leads n from [] from
     to_pair : {from to : Option Spot} {key m : Link} {ms : List Link} {at : Spot} → ArePairAt n from key m at → Leads n (Some at) ms to → Leads n from (key ∷ m ∷ ms) to
-    to_type : {from to : Option Spot} {m : Link} {ms : List Link} {at : Spot} → AreNoPair n from m ms → IsTypeAt n from m at → Leads n (Some at) ms to → Leads n from (m ∷ ms) to
-    passes : {from to : Option Spot} {m : Link} {ms : List Link} → AreNoPair n from m ms → ((at : Spot) → IsTypeAt n from m at → ⊥) → Leads n from ms to → Leads n from (m ∷ ms) to
+    to_one : {from to : Option Spot} {m : Link} {ms : List Link} {at : Spot} → AreNoPair n from m ms → IsOneAt n from m at → Leads n (Some at) ms to → Leads n from (m ∷ ms) to
+    passes : {from to : Option Spot} {m : Link} {ms : List Link} → AreNoPair n from m ms → ((at : Spot) → IsOneAt n from m at → ⊥) → Leads n from ms to → Leads n from (m ∷ ms) to
 
   -- What the links lead to, in the rule; or where they lead to nothing in rules of the name, all of the body of one of these.
   pub data IsShown (n : Text) (r : S.Rule) (inside : List Link) (s : Span) : Type 0 where

@@ -5,6 +5,7 @@ use Rattle.check_terms.specs.declared.row.Row.{Row}
 use Rattle.check_instances.specs.declared.closed.closed.Meaning.{Meaning}
 use Rattle.table_making.specs.declared.origin.TypeOrigin.{TypeOrigin}
 use Rattle.table_making.specs.declared.origin.TypeOrigin.TheVariants as T
+use Rattle.table_nodes.specs.declared.nodes.TypeId.{TypeId}
 use Rattle.type_links.specs.declared.link.Link.{Link}
 use Rattle.type_links.specs.declared.link.Link.TheVariants as L
 use Rattle.cddl_sources.specs.declared.piece.EntryAt.{EntryAt}
@@ -39,6 +40,7 @@ abbrev pub origin_at : Sources → Link → Option TypeOrigin
 origin_at x (L.Type m) = slice_get x.origins.items m.number
 origin_at x (L.Alternative k) = None
 origin_at x (L.Entry k) = None
+origin_at x (L.Key m) = None
 
 abbrev pub number_at : Sources → Link → Option ℕ
 number_at x m = number_in x.numbers.items (origin_at x m)
@@ -61,6 +63,12 @@ IsRuleIn x i = (a : RuleAt) × (slice_get x.rules.items i ≡ Some a)
 pub record IsOfOrigin (x : Sources) (o : TypeOrigin) (a : PieceAt) : Type 0 where
   pub contained : Contains x.pieces.items a
   pub same : a.origin ≡ Some o
+
+-- a place that is the key of an entry, of this origin
+pub record IsKeyPlace (x : Sources) (o : TypeOrigin) (a : PieceAt) : Type 0 where
+  pub contained : Contains x.pieces.items a
+  pub alone : a.origin ≡ None
+  pub same : a.key ≡ Some o
 
 -- it lies within the other
 abbrev pub IsInside : PieceAt → PieceAt → Type 0
@@ -97,15 +105,15 @@ pub data IsSplicedIn (x : Sources) (map : PieceAt) : ℕ → Type 0 where
   named_in_map : {n : ℕ} {a : PieceAt} → n < x.names → IsMember x n a → IsBetween map a → IsSplicedIn x map n
   named_in_group : {n m : ℕ} {a : PieceAt} → n < x.names → IsMember x n a → IsInBody x m a → IsSplicedIn x map m → IsSplicedIn x map n
 
--- the value is in an entry of the map
-pub data IsValueOf (x : Sources) (map a : PieceAt) : Type 0 where
-  value_in_map : IsBetween map a → IsValueOf x map a
-  value_in_group : {n : ℕ} → IsInBody x n a → IsSplicedIn x map n → IsValueOf x map a
+-- the key or the value is in an entry of the map
+pub data IsInMap (x : Sources) (map a : PieceAt) : Type 0 where
+  in_its_brackets : IsBetween map a → IsInMap x map a
+  in_its_group : {n : ℕ} → IsInBody x n a → IsSplicedIn x map n → IsInMap x map a
 
 -- the same, where what was found before is the map, or in a rule with this number, if nothing was
-abbrev pub IsValueFrom : Sources → ℕ → Option PieceAt → PieceAt → Type 0
-IsValueFrom x n None a = HasNumber x a.rule n
-IsValueFrom x n (Some map) a = IsValueOf x map a
+abbrev pub IsInMapFrom : Sources → ℕ → Option PieceAt → PieceAt → Type 0
+IsInMapFrom x n None a = HasNumber x a.rule n
+IsInMapFrom x n (Some map) a = IsInMap x map a
 
 -- for each number whether it is that of such a name
 pub record AreSpliced (x : Sources) (map : PieceAt) (flags : List Bool) : Type 0 where
@@ -129,6 +137,13 @@ pub record AreSteps (x : Sources) (map : PieceAt) (steps : List Implication) : T
   pub each : (i : Implication) → Contains steps i → (a : PieceAt) × IsStep x map a i
   pub all : (a : PieceAt) (i : Implication) → IsStep x map a i → Contains steps i
 
+-- it is the key of an entry and of this type
+pub record IsKeyIn (x : Sources) (n : ℕ) (from : Option PieceAt) (key : TypeId) (a : PieceAt) : Type 0 where
+  pub origin : TypeOrigin
+  pub there : origin_at x (L.Type key) ≡ Some origin
+  pub is : IsKeyPlace x origin a
+  pub inside : IsInMapFrom x n from a
+
 -- it is of the second type, the value of an entry whose key is of the first
 pub record IsValueIn (x : Sources) (n : ℕ) (from : Option PieceAt) (key m : Link) (a : PieceAt) : Type 0 where
   pub key_origin : TypeOrigin
@@ -137,7 +152,7 @@ pub record IsValueIn (x : Sources) (n : ℕ) (from : Option PieceAt) (key m : Li
   pub origin : TypeOrigin
   pub there : origin_at x m ≡ Some origin
   pub is : IsOfOrigin x origin a
-  pub inside : IsValueFrom x n from a
+  pub inside : IsInMapFrom x n from a
 
 -- the entry has so many alternatives and entries after it
 pub record IsPlacedIn (alternative place : ℕ) (e : Option EntryAt) : Type 0 where
@@ -197,6 +212,11 @@ pub data ArePairIn (x : Sources) (n : ℕ) (from : Option PieceAt) : Link → Li
   of_value : {key m : Link} {a : PieceAt} → IsValueIn x n from key m a → ArePairIn x n from key m a
   of_entry : {k i : ℕ} {a : PieceAt} → IsEntryOf x from k i a → ArePairIn x n from (L.Alternative k) (L.Entry i) a
 
+-- one link leads to it by itself
+pub data IsOneIn (x : Sources) (n : ℕ) (from : Option PieceAt) : Link → PieceAt → Type 0 where
+  of_type : {m : Link} {a : PieceAt} → IsTypeIn x n from m a → IsOneIn x n from m a
+  of_key : {key : TypeId} {a : PieceAt} → IsKeyIn x n from key a → IsOneIn x n from (L.Key key) a
+
 abbrev pub AreNoPairIn : Sources → ℕ → Option PieceAt → Link → List Link → Type 0
 AreNoPairIn x n from m [] = Unit {0}
 AreNoPairIn x n from m (v ∷ ms) = (a : PieceAt) → ArePairIn x n from m v a → ⊥
@@ -205,8 +225,8 @@ AreNoPairIn x n from m (v ∷ ms) = (a : PieceAt) → ArePairIn x n from m v a �
 pub data LeadsIn (x : Sources) (n : ℕ) : Option PieceAt → List Link → Option PieceAt → Type 0 where
   arrives : {from : Option PieceAt} → LeadsIn x n from [] from
   to_pair : {from to : Option PieceAt} {key m : Link} {ms : List Link} {a : PieceAt} → ArePairIn x n from key m a → LeadsIn x n (Some a) ms to → LeadsIn x n from (key ∷ m ∷ ms) to
-  to_type : {from to : Option PieceAt} {m : Link} {ms : List Link} {a : PieceAt} → AreNoPairIn x n from m ms → IsTypeIn x n from m a → LeadsIn x n (Some a) ms to → LeadsIn x n from (m ∷ ms) to
-  passes : {from to : Option PieceAt} {m : Link} {ms : List Link} → AreNoPairIn x n from m ms → ((a : PieceAt) → IsTypeIn x n from m a → ⊥) → LeadsIn x n from ms to → LeadsIn x n from (m ∷ ms) to
+  to_one : {from to : Option PieceAt} {m : Link} {ms : List Link} {a : PieceAt} → AreNoPairIn x n from m ms → IsOneIn x n from m a → LeadsIn x n (Some a) ms to → LeadsIn x n from (m ∷ ms) to
+  passes : {from to : Option PieceAt} {m : Link} {ms : List Link} → AreNoPairIn x n from m ms → ((a : PieceAt) → IsOneIn x n from m a → ⊥) → LeadsIn x n from ms to → LeadsIn x n from (m ∷ ms) to
 
 -- the link that is held back, if one is, before the others
 abbrev pub with_held : Option Link → List Link → List Link

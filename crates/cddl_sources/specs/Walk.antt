@@ -16,7 +16,7 @@ use Rattle.cddl_sources.specs.declared.node.InnerNode.TheVariants as InnerV
 use Rattle.cddl_sources.specs.declared.node.Found.{Found}
 use Rattle.cddl_sources.specs.declared.node.Node.{Node}
 use Rattle.cddl_sources.specs.declared.node.Node.TheVariants as NodeV
-use Rattle.cddl_sources.specs.Pieces.{Around, Inner, Piece, a_member, a_type, a_value, a_word, an_entry, brackets, in_entry, in_type1, inner_of, key_piece, of_group, of_types, operand, placed, the_rule}
+use Rattle.cddl_sources.specs.Pieces.{Around, Inner, Piece, a_key, a_member, a_type, a_value, a_word, an_entry, brackets, in_entry, in_type1, inner_of, key_piece, of_group, of_types, operand, placed, the_rule}
 
 abbrev pub view_around : (Leaf → Token) → AroundNode → Around
 view_around read (AroundV.Brackets o c) = brackets (read o) (read c)
@@ -32,6 +32,7 @@ view_node read (NodeV.Operation t) = a_type (S.only (view_type1 read t.now))
 view_node read (NodeV.Operand t) = operand (view_type2 read t.now)
 view_node read (NodeV.Literal v) = operand (S.literal (view_value read v))
 view_node read (NodeV.Word l) = a_word (read l)
+view_node read (NodeV.Key a k) = a_key (view_around read a) (key_piece (view_key read k.now))
 view_node read (NodeV.Value a k t) = a_value (view_around read a) (key_piece (view_key read k.now)) (view_types read t.now)
 view_node read (NodeV.Member a t) = a_member (view_around read a) (view_types read t.now)
 view_node read (NodeV.Entry e) = an_entry (view_around read e.around) e.alternative e.place (view_inner read e.inner)

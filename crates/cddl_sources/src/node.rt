@@ -50,6 +50,8 @@ pub(crate) enum Node<'t> {
     Literal(Value),
     /// A bareword that is a key.
     Word(Leaf),
+    /// What an entry has as its key, with what is round the map's group.
+    Key(AroundNode, &'t MemberKey),
     /// The type of the value in an entry that has this key, with what is round the map's group.
     Value(AroundNode, &'t MemberKey, &'t Types),
     /// An entry without a key, with what is round its group.

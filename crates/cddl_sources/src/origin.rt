@@ -64,7 +64,7 @@ fn push(pieces: &mut Vec<PieceAt>, piece: PieceAt) -> Result<(), NoRoom>
     }
 }
 
-// What the key is of, where the node is the type of the value in an entry.
+// What the key is of, where the node is that of an entry or the type of the value in one.
 fn key_origin<'s>(
     terms: &mut Terms<'s>,
     tree: &Tree<'s>,
@@ -74,6 +74,7 @@ fn key_origin<'s>(
     ensures key { IfOk result (λ o. IsKeyOf terms.new (view_node (token_of tree.now) node.entry) o) }
 {
     match node {
+        Node::Key(_, key) => node_origin(terms, tree, key_node(key)),
         Node::Value(_, key, _) => node_origin(terms, tree, key_node(key)),
         Node::Choice(_) => Ok(None),
         Node::Operation(_) => Ok(None),
@@ -99,17 +100,19 @@ fn entry_at(node: Node<'_>) -> Option<EntryAt>
         Node::Operand(_) => None,
         Node::Literal(_) => None,
         Node::Word(_) => None,
+        Node::Key(_, _) => None,
         Node::Value(_, _, _) => None,
         Node::Member(_, _) => None,
     }
 }
 
-// What is round the group of an entry or of a member, or the map's group in which a value is.
+// What is round the group of an entry or of a member, or the map's group in which a key or a value is.
 fn around_at(tree: &Tree<'_>, node: Node<'_>) -> Option<Span>
     ensures { AreRoundIt (view_node (token_of tree.now) node.entry) result }
 {
     match node {
         Node::Entry(entry) => around_span(tree, entry.around),
+        Node::Key(around, _) => around_span(tree, around),
         Node::Value(around, _, _) => around_span(tree, around),
         Node::Member(around, _) => around_span(tree, around),
         Node::Choice(_) => None,
@@ -166,7 +169,7 @@ fn types_name<'s>(
     }
 }
 
-// The row of a type, or the text of a word; nothing for an entry or a member, which may be a group.
+// The row of a type, or the text of a word; nothing for an entry or a member, which may be a group, nor for a key in its place.
 fn node_origin<'s>(
     terms: &mut Terms<'s>,
     tree: &Tree<'s>,
@@ -182,6 +185,7 @@ fn node_origin<'s>(
         Node::Literal(value) => Ok(Some(TypeOrigin::Row(read_literal(terms, tree, value)?))),
         Node::Word(leaf) => Ok(Some(TypeOrigin::Word(terms.add_text(text_at(tree, leaf))?))),
         Node::Value(_, _, types) => Ok(Some(TypeOrigin::Row(read_types(terms, tree, types)?))),
+        Node::Key(_, _) => Ok(None),
         Node::Member(_, _) => Ok(None),
         Node::Entry(_) => Ok(None),
     }

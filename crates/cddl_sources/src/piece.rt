@@ -18,12 +18,12 @@ pub(crate) struct EntryAt {
 pub(crate) struct PieceAt {
     // The place of its rule in the list of rules, from 0.
     pub(crate) rule: usize,
-    // What it is of, unless it is an entry or a member.
+    // What it is of, unless it is an entry or a member, or the key of an entry in its place there.
     pub(crate) origin: Option<TypeOrigin>,
-    // What its key is of, where it is the type of the value in an entry.
+    // What the key is of, where it is the key of an entry in its place there, or the type of the value in an entry.
     pub(crate) key: Option<TypeOrigin>,
-    // The group of which it is an entry or a member, or the map's group in which it is a value, from its opening to its closing
-    // bracket; nothing where that is the body of a rule.
+    // The group of which it is an entry or a member, or the map's group in which it is a key or a value, from its opening to its
+    // closing bracket; nothing where that is the body of a rule.
     pub(crate) around: Option<Span>,
     // Where it stands in its group, where it is an entry.
     pub(crate) entry: Option<EntryAt>,

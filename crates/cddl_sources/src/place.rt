@@ -8,7 +8,7 @@ ghost use Rattle.table_nodes.specs.declared.table.Table.{Table};
 ghost use Rattle.type_links.specs.declared.link.Link.{Link as ALink};
 ghost use Rattle.cddl_sources.specs.Places.{IsOfNoRule, IsPlace};
 ghost use Rattle.cddl_sources.specs.Sources.{AreSources};
-ghost use Rattle.cddl_sources.specs.States.{AreNoPairIn, ArePairIn, HasNoRule, HasNumber, AreSplicedFrom, IsAlternative, IsBetween, IsEntryNamed, IsEntryOf, IsEntryThere, IsFoundAfter, IsFrom, IsInside, IsNarrowed, IsOfOrigin, IsPlacedIn, IsRuleIn, IsStarted, IsStateAfter, IsStateOf, IsTold, IsTypeIn, IsValueFrom, IsValueIn, LeadsIn, count_in, number_at, origin_at};
+ghost use Rattle.cddl_sources.specs.States.{AreNoPairIn, ArePairIn, HasNoRule, HasNumber, AreSplicedFrom, IsAlternative, IsBetween, IsEntryNamed, IsEntryOf, IsEntryThere, IsFoundAfter, IsFrom, IsInside, IsKeyIn, IsKeyPlace, IsNarrowed, IsOfOrigin, IsOneIn, IsPlacedIn, IsRuleIn, IsStarted, IsStateAfter, IsStateOf, IsTold, IsTypeIn, IsInMapFrom, IsValueIn, LeadsIn, count_in, number_at, origin_at};
 ghost use Rattle.cddl_sources.specs.declared.piece.PieceAt.{PieceAt as Piece};
 
 use crate::piece::{EntryAt, PieceAt};
@@ -16,6 +16,7 @@ use crate::sources::Sources;
 use crate::span::Span;
 use std::alloc::{AllocError, Global};
 use table_making::TypeOrigin;
+use table_nodes::TypeId;
 use type_links::Link;
 
 /// Where a type stands in the text of a specification.
@@ -61,7 +62,7 @@ impl Sources {
     /// stands where it is asked for. From there on each type narrows it: to the first place in the rules of that name that is of
     /// this type, within the place of the one found before. Where the key of an entry comes right before the type of its value, it
     /// is that entry's, in the map whose place was found before, and not of one within it: it stands in the map, or in a rule to
-    /// which names lead that are entries there. An alternative of a group and an entry of it lead to this entry, where the place
+    /// which names lead that are entries there. So does the key to which a link of its own leads. An alternative of a group and an entry of it lead to this entry, where the place
     /// found before is that of the array or of the parentheses round the group, or is a name that is an entry by itself: then it
     /// stands in the rules of that name. Nothing is told where none is an instance of a rule of the text.
     ///
@@ -79,17 +80,20 @@ impl Sources {
             let new = self.step(alloc, state, *link)?;
             state = new;
         }
-        Ok(self.told_last(state))
+        self.told_last(alloc, state)
     }
 
     // The place that the last state tells, if there is one.
-    fn told_last(&self, state: Option<State>) -> Option<Place>
-        ensures some { IfSome result (λ p. (chain : List ALink) (s : Sense) (table : Table) (known : AreSources s table self.now) → IsStateOf self.now chain state → IsPlace (rules_of s.tree) (IsNameOfType s known.terms known.nodes) chain p) }
-        ensures none { IfNone result ((chain : List ALink) (s : Sense) (table : Table) (known : AreSources s table self.now) → IsStateOf self.now chain state → (m : ALink) → Contains chain m → IsOfNoRule (rules_of s.tree) (IsNameOfType s known.terms known.nodes) m) }
+    fn told_last(&self, alloc: Global, state: Option<State>) -> Result<Option<Place>, AllocError>
+        ensures some { IfOk result (λ o. IfSome o (λ p. (chain : List ALink) (s : Sense) (table : Table) (known : AreSources s table self.now) → IsStateOf self.now chain state → IsPlace (rules_of s.tree) (IsNameOfType s known.terms known.nodes) chain p)) }
+        ensures none { IfOk result (λ o. IfNone o ((chain : List ALink) (s : Sense) (table : Table) (known : AreSources s table self.now) → IsStateOf self.now chain state → (m : ALink) → Contains chain m → IsOfNoRule (rules_of s.tree) (IsNameOfType s known.terms known.nodes) m)) }
     {
         match state {
-            Some(state) => self.told(state, self.last_found(state)),
-            None => None,
+            Some(state) => {
+                let found = self.last_found(alloc, state)?;
+                Ok(self.told(state, found))
+            }
+            None => Ok(None),
         }
     }
 
@@ -171,6 +175,7 @@ impl Sources {
             Link::Type(id) => self.origins.get(id.number).copied(),
             Link::Alternative { .. } => None,
             Link::Entry { .. } => None,
+            Link::Key(_) => None,
         }
     }
 
@@ -231,31 +236,60 @@ impl Sources {
                 held: None,
                 ..state
             }),
-            None => Ok(State {
-                found: self.found_by(state.number, state.found, first),
-                held: Some(link),
-                ..state
-            }),
+            None => {
+                let found = self.found_by(alloc, state.number, state.found, first)?;
+                Ok(State {
+                    found,
+                    held: Some(link),
+                    ..state
+                })
+            }
         }
     }
 
     // What is found last, where no link comes any more.
-    fn last_found(&self, state: State) -> Option<PieceAt>
-        ensures { (ids : List ALink) → IsFoundAfter self.now state ids → LeadsIn self.now state.number None ids result }
+    fn last_found(&self, alloc: Global, state: State) -> Result<Option<PieceAt>, AllocError>
+        ensures { IfOk result (λ o. (ids : List ALink) → IsFoundAfter self.now state ids → LeadsIn self.now state.number None ids o) }
     {
         match state.held {
-            Some(link) => self.found_by(state.number, state.found, link),
-            None => state.found,
+            Some(link) => self.found_by(alloc, state.number, state.found, link),
+            None => Ok(state.found),
         }
     }
 
     // What is found last, once a link is followed that leads nowhere with the next one.
-    fn found_by(&self, number: u32, found: Option<PieceAt>, link: Link) -> Option<PieceAt>
-        ensures { (ids : List ALink) (to : Option Piece) → AreNoPairIn self.now number found link ids → LeadsIn self.now number result ids to → LeadsIn self.now number found (link ∷ ids) to }
+    fn found_by(
+        &self,
+        alloc: Global,
+        number: u32,
+        found: Option<PieceAt>,
+        link: Link,
+    ) -> Result<Option<PieceAt>, AllocError>
+        ensures { IfOk result (λ o. (ids : List ALink) (to : Option Piece) → AreNoPairIn self.now number found link ids → LeadsIn self.now number o ids to → LeadsIn self.now number found (link ∷ ids) to) }
     {
-        match self.type_in(number, found, link) {
-            Some(piece) => Some(piece),
-            None => found,
+        let one = self.one_in(alloc, number, found, link)?;
+        match one {
+            Some(piece) => Ok(Some(piece)),
+            None => Ok(found),
+        }
+    }
+
+    // Where one link leads by itself, from what was found before.
+    fn one_in(
+        &self,
+        alloc: Global,
+        number: u32,
+        found: Option<PieceAt>,
+        link: Link,
+    ) -> Result<Option<PieceAt>, AllocError>
+        ensures some { IfOk result (λ o. IfSome o (IsOneIn self.now number found link)) }
+        ensures none { IfOk result (λ o. IfNone o ((a : Piece) → IsOneIn self.now number found link a → ⊥)) }
+    {
+        match link {
+            Link::Key(key) => self.key_in(alloc, number, found, key),
+            Link::Type(_) => Ok(self.type_in(number, found, link)),
+            Link::Alternative { .. } => Ok(None),
+            Link::Entry { .. } => Ok(None),
         }
     }
 
@@ -284,6 +318,7 @@ impl Sources {
             Link::Type(_) => self.value_in(alloc, number, found, first, link),
             Link::Alternative { after } => Ok(self.entry_after(number, found, after, link)),
             Link::Entry { .. } => Ok(None),
+            Link::Key(_) => Ok(None),
         }
     }
 
@@ -302,7 +337,39 @@ impl Sources {
             Link::Entry { after } => self.entry_in(found, alternative, after),
             Link::Type(_) => None,
             Link::Alternative { .. } => None,
+            Link::Key(_) => None,
         }
+    }
+
+    // The first place of the key of an entry that has this type as its key.
+    fn key_in(
+        &self,
+        alloc: Global,
+        number: u32,
+        found: Option<PieceAt>,
+        key: TypeId,
+    ) -> Result<Option<PieceAt>, AllocError>
+        ensures some { IfOk result (λ o. IfSome o (IsKeyIn self.now number found key)) }
+        ensures none { IfOk result (λ o. IfNone o ((a : Piece) → IsKeyIn self.now number found key a → ⊥)) }
+    {
+        let names = self.spliced_from(alloc, found)?;
+        Ok(self.key_by(number, found, &names, key))
+    }
+
+    // The same, by the names of the groups whose entries are the map's.
+    fn key_by(
+        &self,
+        number: u32,
+        found: Option<PieceAt>,
+        names: &[bool],
+        key: TypeId,
+    ) -> Option<PieceAt>
+        requires { AreSplicedFrom self.now found names.now }
+        ensures some { IfSome result (IsKeyIn self.now number found key) }
+        ensures none { IfNone result ((a : Piece) → IsKeyIn self.now number found key a → ⊥) }
+    {
+        let origin = self.origin_of(Link::Type(key))?;
+        self.first_key(number, found, names, origin)
     }
 
     // The first place of the value's type in an entry that has these types as its key and as its value.
@@ -402,7 +469,27 @@ impl Sources {
         None
     }
 
-    // The same with this key.
+    // The first place of a key of an entry that is of this.
+    fn first_key(
+        &self,
+        number: u32,
+        found: Option<PieceAt>,
+        names: &[bool],
+        origin: TypeOrigin,
+    ) -> Option<PieceAt>
+        requires { AreSplicedFrom self.now found names.now }
+        ensures some { IfSome result (λ a. IsKeyPlace self.now origin a × IsInMapFrom self.now number found a) }
+        ensures none { IfNone result ((a : Piece) → IsKeyPlace self.now origin a → IsInMapFrom self.now number found a → ⊥) }
+    {
+        for piece in &self.pieces {
+            if is_key(*piece, origin) && self.is_in_map_from(*piece, number, found, names) {
+                return Some(*piece);
+            }
+        }
+        None
+    }
+
+    // The first place of the value's type in an entry, by what both are of.
     fn first_value(
         &self,
         number: u32,
@@ -412,11 +499,11 @@ impl Sources {
         origin: TypeOrigin,
     ) -> Option<PieceAt>
         requires { AreSplicedFrom self.now found names.now }
-        ensures some { IfSome result (λ a. IsOfOrigin self.now origin a × IsValueFrom self.now number found a × (a.key ≡ Some key)) }
-        ensures none { IfNone result ((a : Piece) → IsOfOrigin self.now origin a → IsValueFrom self.now number found a → a.key ≡ Some key → ⊥) }
+        ensures some { IfSome result (λ a. IsOfOrigin self.now origin a × IsInMapFrom self.now number found a × (a.key ≡ Some key)) }
+        ensures none { IfNone result ((a : Piece) → IsOfOrigin self.now origin a → IsInMapFrom self.now number found a → a.key ≡ Some key → ⊥) }
     {
         for piece in &self.pieces {
-            if is_value(*piece, key, origin) && self.is_value_from(*piece, number, found, names) {
+            if is_value(*piece, key, origin) && self.is_in_map_from(*piece, number, found, names) {
                 return Some(*piece);
             }
         }
@@ -464,9 +551,9 @@ impl Sources {
         }
     }
 
-    // Whether the value is in an entry of the map that was found before, of whose groups these are the names, or in a rule with this
-    // number.
-    fn is_value_from(
+    // Whether the key or the value is in an entry of the map that was found before, of whose groups these are the names, or in a rule
+    // with this number.
+    fn is_in_map_from(
         &self,
         piece: PieceAt,
         number: u32,
@@ -474,7 +561,7 @@ impl Sources {
         names: &[bool],
     ) -> bool
         requires { AreSplicedFrom self.now found names.now }
-        ensures is { IsTrue result ↔ IsValueFrom self.now number found piece }
+        ensures is { IsTrue result ↔ IsInMapFrom self.now number found piece }
     {
         match found {
             Some(map) => is_between(map, piece) || self.is_flagged(piece, names),
@@ -556,7 +643,17 @@ fn is_value(piece: PieceAt, key: TypeOrigin, origin: TypeOrigin) -> bool
     is_of(piece, origin) && has_key(piece, key)
 }
 
-// Whether it is the type of the value in an entry whose key is of this.
+// Whether it is the key of an entry that is of this.
+fn is_key(piece: PieceAt, key: TypeOrigin) -> bool
+    ensures { IsTrue result ↔ ((piece.origin ≡ None) × (piece.key ≡ Some key)) }
+{
+    match piece.origin {
+        Some(_) => false,
+        None => has_key(piece, key),
+    }
+}
+
+// Whether it is the key of an entry that is of this, or the type of the value in such an entry.
 fn has_key(piece: PieceAt, key: TypeOrigin) -> bool
     ensures { IsTrue result ↔ (piece.key ≡ Some key) }
 {

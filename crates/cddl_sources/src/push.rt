@@ -3,7 +3,7 @@
 ghost use Rattle.std.specs.Prelude.{OnOk, [], ◌∷◌};
 ghost use Rattle.tree_nodes.specs.Syntax.Syntax as S;
 ghost use Rattle.tree_nodes.specs.View.{view_key, view_type1, view_type2, view_types, view_value};
-ghost use Rattle.cddl_sources.specs.Pieces.{a_member, a_type, a_value, a_word, an_entry, key_piece, operand};
+ghost use Rattle.cddl_sources.specs.Pieces.{a_key, a_member, a_type, a_value, a_word, an_entry, key_piece, operand};
 ghost use Rattle.cddl_sources.specs.Walk.{Adds, view_around, view_inner, view_node};
 
 use crate::node::{AroundNode, EntryNode, Found, Node};
@@ -58,6 +58,17 @@ pub(crate) fn push_word(
     ensures { OnOk result (Adds found.old.items found.new.items rule (λ read. a_word (read name) ∷ [])) }
 {
     push(Node::Word(name), rule, found)
+}
+
+pub(crate) fn push_key<'t>(
+    around: AroundNode,
+    key: &'t MemberKey,
+    rule: usize,
+    found: &mut Vec<Found<'t>>,
+) -> Result<(), AllocError>
+    ensures { OnOk result (Adds found.old.items found.new.items rule (λ read. a_key (view_around read around) (key_piece (view_key read key.now)) ∷ [])) }
+{
+    push(Node::Key(around, key), rule, found)
 }
 
 pub(crate) fn push_value<'t>(

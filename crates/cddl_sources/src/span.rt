@@ -4,16 +4,16 @@ ghost use Rattle.std.specs.Prelude.{◌≡◌, [], ◌∷◌, IfSome};
 ghost use Rattle.cddl_language.specs.Reading.{name_token, rule_head, rule_name as name_of_rule};
 ghost use Rattle.cddl_token.specs.declared.Kind.TheVariants.{Name};
 ghost use Rattle.tree_nodes.specs.Syntax.Syntax as S;
-ghost use Rattle.tree_nodes.specs.View.{token_of, view_grpent, view_name, view_ref, view_rule, view_type1, view_type2, view_types, view_value};
+ghost use Rattle.tree_nodes.specs.View.{token_of, view_grpent, view_key, view_name, view_ref, view_rule, view_type1, view_type2, view_types, view_value};
 ghost use Rattle.tree_nodes.specs.declared.tree.Tree.{Tree as TreeOf};
-ghost use Rattle.cddl_sources.specs.Pieces.{bare_type1, bare_type2, bare_types, tokens_of_inner, tokens_of_piece};
+ghost use Rattle.cddl_sources.specs.Pieces.{bare_type1, bare_type2, bare_types, key_piece, tokens_of_inner, tokens_of_piece};
 ghost use Rattle.cddl_sources.specs.Spans.{EndsAt, IsNameSpan, IsSpan, body_tokens};
 ghost use Rattle.cddl_sources.specs.Walk.{view_inner, view_node};
 
 use crate::bare::{bare_types, type1_inside, type2_inside};
 use crate::node::{InnerNode, Node};
 use check_terms::opened_name;
-use tree_nodes::{GrpEnt, Leaf, Ref, Rule, RuleName, Tree, Type1, Type2, Types, Value};
+use tree_nodes::{GrpEnt, Leaf, MemberKey, Ref, Rule, RuleName, Tree, Type1, Type2, Types, Value};
 
 /// A part of a text: from the offset of its first byte to the offset after its last.
 #[derive(Clone, Copy, Debug, PartialEq, Eq)]
@@ -32,11 +32,9 @@ pub(crate) fn node_span(tree: &Tree<'_>, node: Node<'_>) -> Span
         Node::Choice(types) => bare_span(tree, types),
         Node::Operation(type1) => type1_span(tree, type1),
         Node::Operand(type2) => type2_span(tree, type2),
-        Node::Literal(value) => Span {
-            first: value.start(tree),
-            end: value_end(tree, &value),
-        },
+        Node::Literal(value) => literal_span(tree, value),
         Node::Word(leaf) => word_span(tree, leaf),
+        Node::Key(_, key) => key_span(tree, key),
         Node::Value(_, _, types) => bare_span(tree, types),
         Node::Member(_, types) => bare_span(tree, types),
         Node::Entry(node) => inner_span(tree, node.inner),
@@ -72,6 +70,26 @@ fn type2_span(tree: &Tree<'_>, type2: &Type2) -> Span
             first: type2.start(tree),
             end: type2_end(tree, type2),
         },
+    }
+}
+
+// Where the key of an entry stands, without what joins it to the value.
+fn key_span(tree: &Tree<'_>, key: &MemberKey) -> Span
+    ensures { IsSpan (tokens_of_piece (key_piece (view_key (token_of tree.now) key.now))) result }
+{
+    match key {
+        MemberKey::TypeKey { type1, .. } => type1_span(tree, type1),
+        MemberKey::Bareword { name, .. } => word_span(tree, *name),
+        MemberKey::ValueKey { value, .. } => literal_span(tree, *value),
+    }
+}
+
+fn literal_span(tree: &Tree<'_>, value: Value) -> Span
+    ensures { IsSpan (S.flat_value (view_value (token_of tree.now) value) ∷ []) result }
+{
+    Span {
+        first: value.start(tree),
+        end: value_end(tree, &value),
     }
 }
 

@@ -11,7 +11,8 @@ ghost use Rattle.cddl_sources.specs.Walk.{Adds, entry_pieces, further_pieces, vi
 use crate::entries::{add_body, add_entries_of, add_lone};
 use crate::node::{AroundNode, Found, InnerNode};
 use crate::push::{
-    push_choice, push_literal, push_member, push_operand, push_operation, push_value, push_word,
+    push_choice, push_key, push_literal, push_member, push_operand, push_operation, push_value,
+    push_word,
 };
 use std::alloc::{AllocError, Global};
 use tree_nodes::{
@@ -228,6 +229,7 @@ fn add_grpent<'t>(
         }
         GrpEnt::Keyed { key, types, .. } => {
             add_key(key, rule, found)?;
+            push_key(around, key, rule, found)?;
             push_value(around, key, types, rule, found)?;
             add_types(types, rule, found)
         }

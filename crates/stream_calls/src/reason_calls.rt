@@ -52,7 +52,7 @@ fn push_reason(alloc: Global, reason: &Reason, out: &mut String) -> Result<(), A
     push_if(reason.greedy, " greedy", out)
 }
 
-// The number of a type; and of an alternative or an entry how many come after it.
+// The number of a type, also of that of a key; and of an alternative or an entry how many come after it.
 fn push_step(alloc: Global, link: Link, out: &mut String) -> Result<(), AllocError> {
     match link {
         Link::Type(id) => push_number(alloc, id.number as u64, out),
@@ -64,6 +64,7 @@ fn push_step(alloc: Global, link: Link, out: &mut String) -> Result<(), AllocErr
             out.push_str("of")?;
             push_number(alloc, after as u64, out)
         }
+        Link::Key(id) => push_named(alloc, "key ", id.number, out),
     }
 }
 

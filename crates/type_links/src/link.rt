@@ -11,4 +11,6 @@ pub enum Link {
     Alternative { after: usize },
     /// To an entry of such an alternative, with so many after it there.
     Entry { after: usize },
+    /// To the key of an entry of the map before, by its type.
+    Key(TypeId),
 }

@@ -22,4 +22,5 @@ returns c = λ w d.
       strings = ap (λ hs. map holder_view hs) c.new-strings.ensures.items;
       cause = tt;
       greedy = refl;
+      needed = refl;
     }

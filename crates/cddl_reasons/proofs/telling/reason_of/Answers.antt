@@ -8,7 +8,7 @@ use Rattle.table_nodes.specs.Language.{language_of}
 use Rattle.cddl_reasons.proofs.telling.reason_of.Goals as goal
 
 pub returns : goal.returns
-returns c = λ first cause at.
+returns c = λ first cause at needed.
     let run = c.args.run.now in
     record {
       before = asked_in run.below.items;
@@ -21,4 +21,5 @@ returns c = λ first cause at.
       strings = c.in_ok-strings.ensures ∙ ap (λ os. strings_of (language_of c.args.table.now) (asked_in os) (waits_in os)) c.as_slice-below.ensures.value;
       cause = cause;
       greedy = c.is_greedy-greedy.ensures ∙ ap (λ os. is_greedy (language_of c.args.table.now) (reverse (asked_in os)) (reverse (waits_in os))) c.as_slice-below.ensures.value;
+      needed = needed;
     }

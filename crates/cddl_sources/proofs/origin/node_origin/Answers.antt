@@ -2,8 +2,8 @@ use Rattle.std.proofs.Common.{◌≡◌, ap, sym, subst, ◌∙◌, None, Some}
 use Rattle.tree_nodes.specs.Syntax.Syntax as S
 use Rattle.tree_nodes.specs.View.{token_of, view_key, view_type1, view_type2, view_types, view_value}
 use Rattle.table_making.specs.declared.origin.TypeOrigin.TheVariants as T
-use Rattle.cddl_sources.specs.Origins.{MayBeOf, is_of, may_be_group, no_type, of_type, of_value, of_word}
-use Rattle.cddl_sources.specs.Pieces.{Piece, a_member, a_type, a_value, a_word, an_entry, key_piece, operand}
+use Rattle.cddl_sources.specs.Origins.{MayBeOf, in_its_place, is_of, may_be_group, no_type, of_type, of_value, of_word}
+use Rattle.cddl_sources.specs.Pieces.{Piece, a_key, a_member, a_type, a_value, a_word, an_entry, key_piece, operand}
 use Rattle.cddl_sources.specs.Walk.{view_around, view_inner, view_node}
 use Rattle.cddl_sources.proofs.origin.node_origin.Goals as goal
 
@@ -49,6 +49,12 @@ returns-in-Entry-clause-origin c =
     let n = c.in-Entry.field-0 in
     let e : view_node read c.args.node ≡ an_entry (view_around read n.around) n.alternative n.place (view_inner read n.inner) = simp c.in-Entry.is in
     subst (λ (p : Piece). MayBeOf c.args.terms.now p None) (sym e) no_type
+
+pub returns-in-Key-clause-origin : goal.returns-in-Key-clause-origin
+returns-in-Key-clause-origin c =
+    let read = token_of c.args.tree.now in
+    let e : view_node read c.args.node ≡ a_key (view_around read c.in-Key.field-0) (key_piece (view_key read c.in-Key.field-1.now)) = simp c.in-Key.is in
+    subst (λ (p : Piece). MayBeOf c.args.terms.now p None) (sym e) in_its_place
 
 pub returns-in-Member-clause-origin : goal.returns-in-Member-clause-origin
 returns-in-Member-clause-origin c =

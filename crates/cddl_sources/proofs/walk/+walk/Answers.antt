@@ -110,7 +110,7 @@ add_grpent-returns-in_ok-push_member-in-Typed t c =
 
 pub add_grpent-returns-in_ok-push_value-in-Keyed : goal.add_grpent-returns-in_ok-push_value-in-Keyed
 add_grpent-returns-in_ok-push_value-in-Keyed t c =
-    on_ok c.add_types-in-Keyed.result _ _ (λ h. adds_as _ (λ read. keyed_pieces read (view_around read c.args.around) _ c.in-Keyed.occur c.in-Keyed.key c.in-Keyed.types _ _ c.in-Keyed.is c.deref.ensures c.deref-in-Keyed.ensures) (adds_both c.in_ok-add_key-in-Keyed.ensures (adds_both c.in_ok-push_value-in-Keyed.ensures h))) c.add_types-in-Keyed.ensures
+    on_ok c.add_types-in-Keyed.result _ _ (λ h. adds_as _ (λ read. keyed_pieces read (view_around read c.args.around) _ c.in-Keyed.occur c.in-Keyed.key c.in-Keyed.types _ _ _ c.in-Keyed.is c.deref.ensures c.deref-in-Keyed.ensures c.deref-in-Keyed-2.ensures) (adds_both c.in_ok-add_key-in-Keyed.ensures (adds_both c.in_ok-push_key-in-Keyed.ensures (adds_both c.in_ok-push_value-in-Keyed.ensures h)))) c.add_types-in-Keyed.ensures
 
 pub add_grpent-returns-in-Grouped : goal.add_grpent-returns-in-Grouped
 add_grpent-returns-in-Grouped t c =

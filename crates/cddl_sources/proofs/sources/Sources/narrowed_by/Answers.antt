@@ -19,8 +19,8 @@ returns-in-Some c =
           (λ rest to l. subst (λ (o : Option Link). LeadsIn x st.number st.found (with_held o (c.args.link ∷ rest)) to) (sym c.requires) (to_pair pair l));
     }
 
-pub returns-in-None : goal.returns-in-None
-returns-in-None c =
+pub returns-in_ok-found-in-None : goal.returns-in_ok-found-in-None
+returns-in_ok-found-in-None c =
     let x = c.args.self.now in
     let st = c.args.state in
     let none : (a : PieceAt) → ArePairIn x st.number st.found c.args.first c.args.link a → ⊥ = subst (λ (o : Option PieceAt). IfNone o ((a : PieceAt) → ArePairIn x st.number st.found c.args.first c.args.link a → ⊥)) c.in-None.is c.in_ok-pair.ensures.none in
@@ -29,6 +29,6 @@ returns-in-None c =
       rule = refl;
       inside = refl;
       found =
-          found_after x c.args.link st c.found_by.result (Some c.args.link)
-          (λ rest to l. subst (λ (o : Option Link). LeadsIn x st.number st.found (with_held o (c.args.link ∷ rest)) to) (sym c.requires) (c.found_by.ensures (c.args.link ∷ rest) to none l));
+          found_after x c.args.link st c.in_ok-found-in-None.found (Some c.args.link)
+          (λ rest to l. subst (λ (o : Option Link). LeadsIn x st.number st.found (with_held o (c.args.link ∷ rest)) to) (sym c.requires) (c.in_ok-found-in-None.ensures (c.args.link ∷ rest) to none l));
     }

@@ -3,7 +3,7 @@ use Rattle.std.proofs.lemmas.List.{take_all}
 use Rattle.lists.proofs.Lemmas.{none_in}
 use Rattle.type_links.specs.declared.link.Link.{Link}
 use Rattle.cddl_sources.specs.States.{IsStateOf}
-use Rattle.cddl_sources.proofs.Stepping.{at_index, next_state, none_then, some_then}
+use Rattle.cddl_sources.proofs.Stepping.{at_index, next_state, none_then, ok_then, some_then}
 use Rattle.cddl_sources.proofs.sources.Sources.place.Goals as goal
 
 pub loop-link-init : goal.loop-link-init
@@ -17,9 +17,9 @@ loop-link-preserved c =
 pub returns-clause-some : goal.returns-clause-some
 returns-clause-some c =
     let all = subst (λ (ids : List Link). IsStateOf c.args.self.now ids c.loop-link.state) (take_all c.loop-link.link-index c.args.chain.now c.loop-link-test.false) c.loop-link.invariant in
-    some_then c.told_last.result _ _ (λ p f s table known. f c.args.chain.now s table known all) c.told_last.ensures.some
+    ok_then c.told_last.result _ _ (λ o g. some_then o _ _ (λ p f s table known. f c.args.chain.now s table known all) g) c.told_last.ensures.some
 
 pub returns-clause-none : goal.returns-clause-none
 returns-clause-none c =
     let all = subst (λ (ids : List Link). IsStateOf c.args.self.now ids c.loop-link.state) (take_all c.loop-link.link-index c.args.chain.now c.loop-link-test.false) c.loop-link.invariant in
-    none_then c.told_last.result _ _ (λ f s table known. f c.args.chain.now s table known all) c.told_last.ensures.none
+    ok_then c.told_last.result _ _ (λ o g. none_then o _ _ (λ f s table known. f c.args.chain.now s table known all) g) c.told_last.ensures.none

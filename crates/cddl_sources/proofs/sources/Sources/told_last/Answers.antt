@@ -6,20 +6,20 @@ use Rattle.cddl_sources.proofs.Standing.{is_place, no_rule}
 use Rattle.cddl_sources.proofs.Stepping.{found_there, none_then, some_then}
 use Rattle.cddl_sources.proofs.sources.Sources.told_last.Goals as goal
 
-pub returns-in-Some-clause-some : goal.returns-in-Some-clause-some
-returns-in-Some-clause-some c =
+pub returns-in_ok-found-in-Some-clause-some : goal.returns-in_ok-found-in-Some-clause-some
+returns-in_ok-found-in-Some-clause-some c =
     some_then c.told.result _ _
     (λ p t chain s table known all.
     let after : IsStateAfter c.args.self.now chain c.in-Some.state = subst (λ (o : Option State). IsStateOf c.args.self.now chain o) c.in-Some.is all in
-    is_place s table c.args.self.now known chain c.in-Some.state c.last_found.result p c.last_found.ensures after t)
+    is_place s table c.args.self.now known chain c.in-Some.state c.in_ok-found-in-Some.found p c.in_ok-found-in-Some.ensures after t)
     c.told.ensures.some
 
-pub returns-in-Some-clause-none : goal.returns-in-Some-clause-none
-returns-in-Some-clause-none c =
+pub returns-in_ok-found-in-Some-clause-none : goal.returns-in_ok-found-in-Some-clause-none
+returns-in_ok-found-in-Some-clause-none c =
     none_then c.told.result _ _
     (λ f chain s table known all m h.
     let after : IsStateAfter c.args.self.now chain c.in-Some.state = subst (λ (o : Option State). IsStateOf c.args.self.now chain o) c.in-Some.is all in
-    absurd (f (after.rule.at, after.rule.there) (found_there c.args.self.now c.in-Some.state.number after.inside c.last_found.result (c.last_found.ensures after.inside after.found))))
+    absurd (f (after.rule.at, after.rule.there) (found_there c.args.self.now c.in-Some.state.number after.inside c.in_ok-found-in-Some.found (c.in_ok-found-in-Some.ensures after.inside after.found))))
     c.told.ensures.none
 
 pub returns-in-None-clause-none : goal.returns-in-None-clause-none
