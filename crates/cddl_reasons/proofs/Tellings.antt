@@ -1,5 +1,5 @@
 -- What a reason tells.
-use Rattle.std.proofs.Common.{◌≡◌, ◌≢◌, ℕ, ◌+◌, ◌<◌, ◌≤◌, ◌==◌, Bool, true, List, [], ◌∷◌, ◌++◌, Contains, get_or, length, subst, take, append_assoc, arith, ap, sym, ◌∙◌, refl, ◌||◌, nat_eq, nat_lt}
+use Rattle.std.proofs.Common.{◌≡◌, ◌≢◌, ℕ, ◌+◌, ◌<◌, ◌≤◌, ◌==◌, Bool, true, List, [], ◌∷◌, ◌++◌, get_or, length, subst, take, append_assoc, arith, ap, sym, ◌∙◌, refl, ◌||◌, nat_eq, nat_lt}
 use Rattle.std.proofs.lemmas.Bool.Decides.{nat_tests}
 use Rattle.std.proofs.lemmas.List.{append-nil, length_push, length-take, take_all, take_more}
 use Rattle.std.specs.List.{list_any}
@@ -9,7 +9,7 @@ use Rattle.cbor_data.specs.Value.{Value}
 use Rattle.cddl_meaning.specs.Judges.{Reply, No}
 use Rattle.cddl_meaning.specs.Moves as M
 use Rattle.cddl_meaning.specs.Moves.{Question, Pending, Answered, Replies}
-use Rattle.std.proofs.lemmas.List.Elements.{All-nil, All-push, All-take, Contains-append_right}
+use Rattle.std.proofs.lemmas.List.Elements.{All-nil, All-push, All-take}
 use Rattle.std.proofs.Math.Nat.{le_trans, min-le_right}
 use Rattle.cddl_match.specs.Entering.{EndIn}
 use Rattle.cddl_match.specs.Open.{AreOpenWith, further}

@@ -31,7 +31,7 @@ use Rattle.tree_nodes.specs.declared.tree.Type2.TheVariants as Type2V
 use Rattle.tree_nodes.specs.declared.tree.GrpEnt.TheViews.{out-Types, out-GenericArg, out-Group, out-GrpChoice}
 use Rattle.tree_nodes.specs.View.{leaf, view_type1, view_type2, view_ref, view_key, view_grpent, view_rule, view_value, view_further, view_entry, view_choice, view_types, view_arg, view_group, with_types, with_arguments, with_entries, with_choices}
 use Rattle.tree_nodes.proofs.Lemmas.{view-Name, view-Applied, view-One, view-Operation, view-Literal, view-Typename, view-Parens, view-MapOf, view-ArrayOf, view-Unwrapped, view-ChoiceOf, view-ChoiceOfName, view-Tagged, view-TaggedBy, view-SimpleBy, view-Hash, view-Typed, view-Keyed, view-Grouped, view-TypeKey, view-Bareword, view-ValueKey, view-Entry, view-Further, view_out-GrpChoice, view_out-Types, view_out-GenericArg, view_out-Group}
-use Rattle.cddl_sources.specs.Pieces.{Around, Piece, a_key, a_member, a_type, a_value, a_word, an_entry, bare_type1, bare_types, brackets, count_of, entries_in, inner_of, key_piece, operand, in_types, in_members, in_type1, in_type2, in_ref, in_arguments, in_group, in_entries, in_entry, in_key, in_rule, inner_or, name_of_type1, name_of_types, of_group, of_types, own_count, own_entries, the_rule}
+use Rattle.cddl_sources.specs.Pieces.{Around, Piece, a_key, a_member, a_type, a_value, a_word, an_entry, bare_type1, bare_types, brackets, count_of, entries_in, key_piece, operand, in_types, in_members, in_type1, in_type2, in_ref, in_arguments, in_group, in_entries, in_entry, in_key, in_rule, inner_or, name_of_type1, name_of_types, of_group, of_types, own_count, own_entries, the_rule}
 use Rattle.cddl_sources.specs.Walk.{further_pieces, entry_pieces, choice_pieces, view_around}
 use Rattle.cddl_sources.specs.declared.node.AroundNode.{AroundNode}
 

@@ -1,5 +1,5 @@
 -- The names of the groups whose entries are a map's, by what follows from the pieces.
-use Rattle.std.proofs.Common.{◌≡◌, ◌⊎◌, ◌↔◌, inl, inr, ℕ, zero, suc, ◌+◌, ◌<◌, ◌≤◌, List, [], ◌∷◌, ◌++◌, length, get_or, option_to_list, Bool, true, false, IsTrue, Option, Some, None, IfSome, slice_get, refl, sym, ap, subst, ◌∙◌, arith}
+use Rattle.std.proofs.Common.{◌≡◌, ◌↔◌, inl, inr, ℕ, ◌+◌, ◌<◌, ◌≤◌, List, [], ◌++◌, length, get_or, option_to_list, Bool, true, false, IsTrue, Option, Some, None, IfSome, slice_get, refl, sym, ap, subst, ◌∙◌, arith}
 use Rattle.std.specs.List.{Contains}
 use Rattle.std.proofs.lemmas.List.{append-nil}
 use Rattle.std.proofs.lemmas.List.Elements.{Contains-append_left, Contains-push, Contains-push_cases}

@@ -23,7 +23,7 @@ use Rattle.cddl_sources.specs.Pieces.{Around, Piece, a_key, a_member, a_type, a_
 use Rattle.cddl_sources.specs.Places.{AreEnds, AreNoPair, ArePairAt, BeginsWithInstance, IsEntryAt, IsEntryNamed, IsEntryWithin, IsKeyAt, IsOf, IsOfNoRule, IsOneAt, IsPlace, IsShown, IsSpliced, IsTypeAt, IsValueAt, Leads, LeadsTo, Make, Stands, StandsAt, StandsIn, a_piece, another, are_ends, arrives, in_a_rule, in_group, in_map, named, named_in_group, named_in_map, no_rules, of_entry, of_key, of_type as of_one_type, of_value, one_more, passes, the_body, to_one, to_pair, within}
 use Rattle.cddl_sources.specs.Sources.{AreSources, IsRuleAt}
 use Rattle.cddl_sources.specs.Spans.{IsNameSpan, IsSpan, IsWithin, Spot, body_tokens}
-use Rattle.cddl_sources.specs.States.{AreNoPairIn, ArePairIn, ArePassed, HasNoRule, HasNumber, IsEntryNamed as IsNamedNumbers, IsEntryOf, IsEntryWithin as IsWithinNumbers, IsFoundAfter, IsFrom, IsInBody, IsKeyIn, IsMember, IsOneIn, IsSplicedIn, IsStateAfter, IsTold, IsTypeIn, IsInMapFrom, IsValueIn, LeadsIn, arrives as by_none, count_in, counted, flattened, named as by_name, name_number, number_at, number_in, named_in_group as numbered_in_group, named_in_map as numbered_in_map, of_entry as by_entry, of_key as by_key, of_type as by_type, of_value as by_value, origin_at, passes as gone_by, text_in, to_one as by_one, to_pair as by_pair, in_its_group, in_its_brackets, within as by_brackets}
+use Rattle.cddl_sources.specs.States.{AreNoPairIn, ArePairIn, ArePassed, HasNoRule, HasNumber, IsEntryNamed as IsNamedNumbers, IsEntryOf, IsEntryWithin as IsWithinNumbers, IsFoundAfter, IsFrom, IsKeyIn, IsMember, IsOneIn, IsSplicedIn, IsStateAfter, IsTold, IsTypeIn, IsInMapFrom, IsValueIn, LeadsIn, arrives as by_none, count_in, counted, flattened, named as by_name, name_number, number_at, number_in, named_in_group as numbered_in_group, named_in_map as numbered_in_map, of_entry as by_entry, of_key as by_key, of_type as by_type, of_value as by_value, origin_at, passes as gone_by, text_in, to_one as by_one, to_pair as by_pair, in_its_group, in_its_brackets, within as by_brackets}
 use Rattle.cddl_sources.specs.declared.piece.EntryAt.{EntryAt}
 use Rattle.cddl_sources.specs.declared.piece.PieceAt.{PieceAt}
 use Rattle.cddl_sources.specs.declared.place.Place.{Place}

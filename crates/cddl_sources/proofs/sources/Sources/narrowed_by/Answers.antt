@@ -1,6 +1,6 @@
 use Rattle.std.proofs.Common.{◌∷◌, IfNone, IfSome, Option, None, Some, refl, sym, subst}
 use Rattle.type_links.specs.declared.link.Link.{Link}
-use Rattle.cddl_sources.specs.States.{AreNoPairIn, ArePairIn, LeadsIn, to_pair, with_held}
+use Rattle.cddl_sources.specs.States.{ArePairIn, LeadsIn, to_pair, with_held}
 use Rattle.cddl_sources.specs.declared.piece.PieceAt.{PieceAt}
 use Rattle.cddl_sources.proofs.Stepping.{found_after}
 use Rattle.cddl_sources.proofs.sources.Sources.narrowed_by.Goals as goal

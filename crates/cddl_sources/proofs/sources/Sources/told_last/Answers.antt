@@ -1,4 +1,4 @@
-use Rattle.std.proofs.Common.{Contains, List, Option, subst}
+use Rattle.std.proofs.Common.{Contains, Option, subst}
 use Rattle.type_links.specs.declared.link.Link.{Link}
 use Rattle.cddl_sources.specs.States.{HasNoRule, IsStateAfter, IsStateOf}
 use Rattle.cddl_sources.specs.declared.place.State.{State}
