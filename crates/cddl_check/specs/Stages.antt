@@ -37,7 +37,6 @@ use Rattle.cddl_check.specs.declared.closing.Meant.{Meant}
 use Rattle.cddl_check.specs.declared.finding.Instanced.{Instanced}
 use Rattle.cddl_check.specs.declared.mapping.MapFaults.{MapFaults}
 use Rattle.cddl_check.specs.declared.mapping.Maps.{Maps}
-use Rattle.cddl_check.specs.declared.questioning.Naming.{Naming}
 use Rattle.cddl_check.specs.declared.questioning.Questions.{Questions}
 use Rattle.cddl_check.specs.declared.reading.Reading.{Reading}
 use Rattle.cddl_check.specs.declared.splicing.Splices.{Splices}
@@ -69,16 +68,15 @@ pub record IsInstanced (s : Specification) (root : Text) (refs : List Ref) (t : 
   pub number : slice_get t.texts x.root ≡ Some root
   pub found : AreFound (definitions s) t x.instances.items refs
 
--- The definitions and their names, by the numbers of the table.
-pub record IsNamed (s : Specification) (t : Table) (v : Survey) (x : Naming) : Type 0 where
+-- The definitions, their names and the kinds of these, by the numbers of the table.
+pub record IsNamed (s : Specification) (t : Table) (v : Survey) : Type 0 where
   pub known : AreDefinitions t v.known.items prelude
   pub defined : AreDefinitions t v.definitions.items (definitions s)
-  pub names : AreNames (length t.texts) v.known.items v.definitions.items x.names.items
-  pub kinds : AreKinds t.texts (definitions s) x.kinds
+  pub names : AreNames (length t.texts) v.known.items v.definitions.items v.names.items
+  pub kinds : AreKinds t.texts (definitions s) v.kinds
 
 -- What is asked of at the sites that the root reaches, and the least of those where `~` opens wrongly.
-pub record IsAsking (s : Specification) (root : Text) (t : Table) (v : Survey) (x : Questions) : Type 0 where
-  pub named : IsNamed s t v x.naming
+pub record IsAsking (s : Specification) (root : Text) (t : Table) (x : Questions) : Type 0 where
   pub asked : AreAsked (rules s) root t x.asked.items
   pub entries : AreEntriesAsked (rules s) root t x.entries.items
   pub opens : IsLeast (OpensWrongly s root) x.opens
@@ -126,6 +124,7 @@ pub record IsReading (s : Specification) (worth : Values) (root : Text) (refs : 
   pub right : IsRight s worth
   pub rooted : IsRooted s root refs tree x.instanced
   pub number : slice_get t.texts x.instanced.root ≡ Some root
-  pub asking : IsAsking s root t x.survey x.questions
+  pub named : IsNamed s t x.survey
+  pub asking : IsAsking s root t x.questions
   pub meant : IsMeant (definitions s) worth root refs t x.meant
   pub splices : AreSplices (definitions s) root t x.splices

@@ -157,7 +157,7 @@ fn recursions(
 ) -> Result<Vec<usize>, AllocError>
     ensures { IfOk result (λ v. (s : Specification) (worth : Values) (root : Text) (refs : List Ref) → s.tree ≡ view tree.now → IsReading s worth root refs terms.now tree.now reading.now → IsOrder (definitions s) root refs terms.now order.now → AreOffsets (HasRecursion s root) v.items) }
 {
-    let names = &reading.questions.naming.names;
+    let names = &reading.survey.names;
     all_recursion(alloc, terms, tree, names, &reading.meant.closed, order)
 }
 

@@ -130,7 +130,7 @@ pub(crate) fn order_of(
     ensures memory { IfErr result (λ e. e ≡ Why.Memory) }
 {
     let closed = &reading.meant.closed;
-    let kinds = &reading.questions.naming.kinds;
+    let kinds = &reading.survey.kinds;
     let openings = &reading.meant.openings;
     let choosable = &reading.meant.choosable;
     let empty = may_be_empty(alloc, terms, closed, kinds, openings)?;
@@ -147,7 +147,7 @@ fn recursion_of(
 ) -> Option<usize>
     ensures { (s : Specification) (worth : Values) (root : Text) (refs : List Ref) → s.tree ≡ view tree.now → IsReading s worth root refs terms.now tree.now reading.now → IsOrder (definitions s) root refs terms.now order.now → IsLeast (HasRecursion s root) result }
 {
-    let names = &reading.questions.naming.names;
+    let names = &reading.survey.names;
     recursion(terms, tree, names, &reading.meant.closed, order)
 }
 

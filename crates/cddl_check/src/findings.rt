@@ -10,12 +10,12 @@ ghost use Rattle.cddl_check.specs.Told.{refusal_of};
 
 use crate::closing::Meant;
 use crate::faults::ranks_of;
-use crate::questioning::{Naming, Questions};
 use crate::reading::{Reading, read_tree};
 use crate::splicing::Splices;
 use crate::stopped::Stopped;
 use cddl_language::one_table_of_values;
 use check_names::kinds::Kinds;
+use check_reading::survey::Survey;
 use check_recursion::Ranks;
 use check_terms::Terms;
 use check_text::laws::root_is_type;
@@ -60,17 +60,16 @@ pub(crate) fn findings_of<'s>(
 
 // What is kept of a reading.
 fn kept<'s>(terms: Terms<'s>, reading: Reading<'_>, ranks: Ranks) -> Findings<'s>
-    ensures { result ≡ record { terms = terms.entry; root = reading.entry.instanced.root; kinds = reading.entry.questions.naming.kinds; meant = reading.entry.meant; splices = reading.entry.splices; ranks = ranks } }
+    ensures { result ≡ record { terms = terms.entry; root = reading.entry.instanced.root; kinds = reading.entry.survey.kinds; meant = reading.entry.meant; splices = reading.entry.splices; ranks = ranks } }
 {
     let Reading {
+        survey,
         instanced,
-        questions,
         meant,
         splices,
         ..
     } = reading;
-    let Questions { naming, .. } = questions;
-    let Naming { kinds, .. } = naming;
+    let Survey { kinds, .. } = survey;
     Findings {
         terms,
         root: instanced.root,

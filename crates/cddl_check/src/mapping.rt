@@ -69,7 +69,7 @@ pub(crate) fn maps_of(
 {
     texts_have_entries();
     let closed = &reading.meant.closed;
-    let kinds = &reading.questions.naming.kinds;
+    let kinds = &reading.survey.kinds;
     let openings = &reading.meant.openings;
     let entries = &reading.questions.entries;
     let most = reading.survey.known.len() + reading.survey.definitions.len();

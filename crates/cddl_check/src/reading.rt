@@ -90,7 +90,7 @@ pub(crate) fn finish_tree<'s, 't>(
     let Begun { survey, instanced } = begun;
     let questions = ask(alloc, terms, tree, &survey, &instanced)?;
     let most = survey.known.len() + survey.definitions.len();
-    let kinds = &questions.naming.kinds;
+    let kinds = &survey.kinds;
     let meant = close_instances(alloc, terms, &instanced.instances, kinds, most)?;
     let splices = splices_of(alloc, terms, kinds, &meant)?;
     Ok(Reading {

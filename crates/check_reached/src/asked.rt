@@ -20,7 +20,7 @@ ghost use Rattle.tree_nodes.specs.View.{token_of, view};
 
 use crate::calls::calls_by_name;
 use crate::laws::answers_grow;
-use crate::parts::{Part, first_part, last_part, read_node};
+use crate::parts::{Part, first_part, last_part, row_of};
 use crate::runs::{Call, Run, renew, run_of};
 use cddl_language::live::reached_sites as reached_sites_are_live;
 use check_instances::Instance;
@@ -85,8 +85,8 @@ pub struct Asked {
 /// listed once for all sites of the rule that follow one another. Memory is needed for each answer, and for the arguments of
 /// all instances of one rule.
 ///
-/// An error comes where memory is refused, or each number of 32 bits is taken; then some rows may have been added. It may come,
-/// too, where a number is not of this table.
+/// The table grows by rows alone. An error comes where memory is refused, or each number of 32 bits is taken; then some rows may
+/// have been added. It may come, too, where a number or a text of the tree is not of this table.
 pub fn questions<'s>(
     alloc: Global,
     terms: &mut Terms<'s>,
@@ -96,6 +96,7 @@ pub fn questions<'s>(
     found: &[Instance],
 ) -> Result<Vec<Asked>, NoRoom>
     ensures grows { Grows terms.old terms.new }
+    ensures texts { IfOk result (λ v. terms.new.texts ≡ terms.old.texts) }
     ensures asked { IfOk result (λ v. (s : Specification) (root : Text) (refs : List Ref) → s.tree ≡ view tree.now → IsClear s → IsSurvey terms.old tree.now survey.now → AreReachedSites (rules s) root (token_of tree.now) reached.now → AreInstances (definitions s) root refs → AreFound (definitions s) terms.old found.now refs → AreAsked (rules s) root terms.new v.items) }
 {
     reached_sites_are_live();
@@ -115,6 +116,7 @@ fn ask_all<'s>(
     reached: &[Found<'_>],
 ) -> Result<Vec<Asked>, NoRoom>
     ensures grows { Grows terms.old terms.new }
+    ensures texts { IfOk result (λ v. terms.new.texts ≡ terms.old.texts) }
     ensures answers { IfOk result (λ v. (rs : List Rule) (refs : List Ref) → AreReady terms.old rs refs (lists calls.now) definitions.now → AreAnswers terms.new v.items (wanted_all (token_of tree.now) rs refs reached.now)) }
 {
     answers_grow();
@@ -137,6 +139,7 @@ fn ask_site<'s>(
     asked: &mut Vec<Asked>,
 ) -> Result<(), NoRoom>
     ensures grows { Grows terms.old terms.new }
+    ensures texts { OnOk result (terms.new.texts ≡ terms.old.texts) }
     ensures answers { OnOk result ((ps : List Text) (refs : List Ref) (ws : List Wanted) → IsRunOf terms.old ps refs run.now → AreAnswers terms.old asked.old.items ws → AreAnswers terms.new asked.new.items (ws ++ (wanted_some ps (by.first_part (view_site (token_of tree.now) site.entry)) refs ++ wanted_some ps (by.last_part (view_site (token_of tree.now) site.entry)) refs))) }
 {
     answers_grow();
@@ -156,6 +159,7 @@ fn ask<'s>(
     asked: &mut Vec<Asked>,
 ) -> Result<(), NoRoom>
     ensures grows { Grows terms.old terms.new }
+    ensures texts { OnOk result (terms.new.texts ≡ terms.old.texts) }
     ensures answers { OnOk result ((ps : List Text) (refs : List Ref) (ws : List Wanted) → IsRunOf terms.old ps refs run.now → AreAnswers terms.old asked.old.items ws → AreAnswers terms.new asked.new.items (ws ++ wanted_some ps (option_map (wanted (token_of tree.now)) part.entry) refs)) }
 {
     match part {
@@ -173,10 +177,11 @@ pub(crate) fn ask_part<'s>(
     asked: &mut Vec<Asked>,
 ) -> Result<(), NoRoom>
     ensures grows { Grows terms.old terms.new }
+    ensures texts { OnOk result (terms.new.texts ≡ terms.old.texts) }
     ensures answers { OnOk result ((ps : List Text) (refs : List Ref) (ws : List Wanted) → IsRunOf terms.old ps refs run.now → AreAnswers terms.old asked.old.items ws → AreAnswers terms.new asked.new.items (ws ++ wanted_each ps (wanted (token_of tree.now) part.entry) refs)) }
 {
     answers_grow();
-    let row = read_node(terms, tree, part.node)?;
+    let row = row_of(terms, tree, part.node)?;
     let template = Template::new(alloc, terms, &run.slots, row)?;
     ask_each(
         alloc,
@@ -200,6 +205,7 @@ fn ask_each(
     asked: &mut Vec<Asked>,
 ) -> Result<(), NoRoom>
     ensures grows { Grows terms.old terms.new }
+    ensures texts { OnOk result (terms.new.texts ≡ terms.old.texts) }
     ensures answers { OnOk result ((ps : List Text) (x : TermTree) (refs : List Ref) (ws : List Wanted) → IsTemplate terms.old ps template.now x → AreCalls terms.old calls.now refs → AreAnswers terms.old asked.old.items ws → AreAnswers terms.new asked.new.items (ws ++ wanted_each ps (record { at = at; question = question; tree = x; call = nothing }) refs)) }
 {
     answers_grow();

@@ -32,8 +32,9 @@ use tree_nodes::Tree;
 /// that its body is: in each instance. So each entry that is spliced into a map is among them.
 ///
 /// The definitions are those of the text, the sites those that are reached, and the instances those of the root. It costs the
-/// entries times the instances of their rule, as `questions` does. An error comes where memory is refused, or each
-/// number of 32 bits is taken; then some rows may have been added. It may come, too, where a number is not of this table.
+/// entries times the instances of their rule, as `questions` does. The table grows by rows alone. An error comes where memory is
+/// refused, or each number of 32 bits is taken; then some rows may have been added. It may come, too, where a number or a text of
+/// the tree is not of this table.
 pub fn entry_questions<'s, 't>(
     alloc: Global,
     terms: &mut Terms<'s>,
@@ -43,6 +44,7 @@ pub fn entry_questions<'s, 't>(
     found: &[Instance],
 ) -> Result<Vec<Asked>, NoRoom>
     ensures grows { Grows terms.old terms.new }
+    ensures texts { IfOk result (λ v. terms.new.texts ≡ terms.old.texts) }
     ensures asked { IfOk result (λ v. (s : Specification) (root : Text) (refs : List Ref) → s.tree ≡ view tree.now → IsClear s → AreDefinitions terms.old definitions.now (definitions_of_text s) → AreReachedSites (rules s) root (token_of tree.now) reached.now → AreInstances (definitions_of_text s) root refs → AreFound (definitions_of_text s) terms.old found.now refs → AreEntriesAsked (rules s) root terms.new v.items) }
 {
     reached_sites_are_live();
@@ -66,6 +68,7 @@ fn ask_entries<'s>(
     listed: &[TextEntry<'_>],
 ) -> Result<Vec<Asked>, NoRoom>
     ensures grows { Grows terms.old terms.new }
+    ensures texts { IfOk result (λ v. terms.new.texts ≡ terms.old.texts) }
     ensures answers { IfOk result (λ v. (rs : List Rule) (refs : List Ref) → AreReady terms.old rs refs (lists calls.now) definitions.now → AreAnswers terms.new v.items (wanted_entries (token_of tree.now) rs refs listed.now)) }
 {
     answers_grow();

@@ -267,8 +267,27 @@ fn types_start(tree: &Tree<'_>, types: &Types) -> usize
     types.start(tree)
 }
 
+// The row of the node, whose texts are in the table: it is read of a tree that was read into it. Where one is not, this is an
+// error, so that the table grows by rows alone.
+pub(crate) fn row_of<'s>(
+    terms: &mut Terms<'s>,
+    tree: &Tree<'s>,
+    node: Node<'_>,
+) -> Result<u32, NoRoom>
+    ensures grows { Grows terms.old terms.new }
+    ensures texts { IfOk result (λ n. terms.new.texts ≡ terms.old.texts) }
+    ensures stands { IfOk result (λ n. Holds terms.new (Some n) (node_tree (token_of tree.now) node.entry)) }
+{
+    let count = terms.text_count();
+    let row = read_node(terms, tree, node)?;
+    if terms.text_count() != count {
+        return Err(NoRoom);
+    }
+    Ok(row)
+}
+
 // The row of the node.
-pub(crate) fn read_node<'s>(
+fn read_node<'s>(
     terms: &mut Terms<'s>,
     tree: &Tree<'s>,
     node: Node<'_>,

@@ -8,6 +8,6 @@ returns c =
     IfOk-weaker c.all_recursion.result _ _
     (λ v h s worth root refs tree reading order.
     let x = c.args.reading.now.survey in
-    let names = subst (AreNames (length c.args.terms.now.texts) x.known.items x.definitions.items) (sym c.deref.ensures.value) reading.asking.named.names in
-    h s root refs x.known.items x.definitions.items tree reading.asking.named.known reading.asking.named.defined names reading.meant.closed order)
+    let names = subst (AreNames (length c.args.terms.now.texts) x.known.items x.definitions.items) (sym c.deref.ensures.value) reading.named.names in
+    h s root refs x.known.items x.definitions.items tree reading.named.known reading.named.defined names reading.meant.closed order)
     c.all_recursion.ensures

@@ -7,7 +7,7 @@ use Rattle.cddl_check.proofs.faults.order_of.Goals as goal
 
 pub returns-clause-order : goal.returns-clause-order
 returns-clause-order c s worth tree root refs reading =
-    let kinds = reading.asking.named.kinds in
+    let kinds = reading.named.kinds in
     let first = subst (AreOpenings (definitions s) c.args.terms.now refs) (sym c.deref.ensures.value) reading.meant.openings in
     let second = subst (AreOpenings (definitions s) c.args.terms.now refs) (sym c.deref-2.ensures.value) reading.meant.openings in
     let flags = subst (AreChoosable (definitions s) root c.args.terms.now) (sym c.deref-3.ensures.value) reading.meant.choosable in

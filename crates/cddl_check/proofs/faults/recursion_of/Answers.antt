@@ -5,5 +5,5 @@ use Rattle.cddl_check.proofs.faults.recursion_of.Goals as goal
 pub returns : goal.returns
 returns c s worth root refs tree reading order =
     let v = c.args.reading.now.survey in
-    let names = subst (AreNames (length c.args.terms.now.texts) v.known.items v.definitions.items) (sym c.deref.ensures.value) reading.asking.named.names in
-    c.recursion.ensures s root refs v.known.items v.definitions.items tree reading.asking.named.known reading.asking.named.defined names reading.meant.closed order
+    let names = subst (AreNames (length c.args.terms.now.texts) v.known.items v.definitions.items) (sym c.deref.ensures.value) reading.named.names in
+    c.recursion.ensures s root refs v.known.items v.definitions.items tree reading.named.known reading.named.defined names reading.meant.closed order

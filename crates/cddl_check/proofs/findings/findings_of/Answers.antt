@@ -22,7 +22,7 @@ returns-clause-found c =
     let first = c.in_ok-reading.ensures.read s some.0 (given some.0 some.1) in
     let root = first.0 in
     let reading = c.in_ok-reading.reading in
-    let found : Findings = record { terms = c.read_tree.new.terms; root = reading.instanced.root; kinds = reading.questions.naming.kinds; meant = reading.meant; splices = reading.splices; ranks = c.in_ok-ranks.ranks } in
+    let found : Findings = record { terms = c.read_tree.new.terms; root = reading.instanced.root; kinds = reading.survey.kinds; meant = reading.meant; splices = reading.splices; ranks = c.in_ok-ranks.ranks } in
     let checked : IsChecked x n root = record {
       rooted = first.2.rooted.rooted;
       accepted = λ worth right.
@@ -41,7 +41,7 @@ returns-clause-found c =
               r.1,
               subst (λ m. AreFindings (definitions_of x) worth m r.1 found) (same_root r.0 root (sym r.2.rooted.rooted ∙ first.2.rooted.rooted)) (record {
                 is_type = c.root_is_type.ensures.is_type s worth r.0 r.2.rooted.rooted r.2.right.no_fault;
-                kinds = r.2.asking.named.kinds;
+                kinds = r.2.named.kinds;
                 meant = r.2.meant;
                 splices = r.2.splices;
                 ranked = c.in_ok-ranks.ensures.ranked s worth r.0 r.1 refl c.requires right r.2;

@@ -1,12 +1,14 @@
-use Rattle.std.proofs.Common.{sym, subst}
+use Rattle.std.proofs.Common.{sym, subst, ◌∙◌}
 use Rattle.cddl_language.specs.Faults.{definitions, rules}
-use Rattle.cddl_language.specs.Prelude.{prelude}
 use Rattle.cddl_language.specs.Reading.{definitions_in, rules_of}
 use Rattle.check_instances.specs.Found.{AreFound}
 use Rattle.check_reached.specs.Reached.{AreReachedSites}
 use Rattle.tree_nodes.specs.View.{token_of}
 use Rattle.check_terms.specs.Definitions.{AreDefinitions}
 use Rattle.cddl_check.proofs.questioning.ask.Goals as goal
+
+pub returns-clause-texts : goal.returns-clause-texts
+returns-clause-texts c = c.in_ok-entries.ensures.texts ∙ c.in_ok-asked.ensures.texts
 
 pub returns-clause-asking : goal.returns-clause-asking
 returns-clause-asking c s worth root refs tree right instanced =
@@ -17,7 +19,6 @@ returns-clause-asking c s worth root refs tree right instanced =
     let read = token_of c.args.tree.now in
     let early = c.questions.ensures.grows in
     let late = c.entry_questions.ensures.grows in
-    let grown = keeps.further old first last early late in
     let survey = instanced.survey in
     let sites = instanced.rooted.reached in
     let instances = instanced.rooted.instances in
@@ -30,7 +31,6 @@ returns-clause-asking c s worth root refs tree right instanced =
     let entry_sites = subst (AreReachedSites (rules s) root read) (sym c.deref-5.ensures.value) sites in
     let entry_found = subst (λ is. AreFound (definitions s) first is refs) (sym c.deref-6.ensures.value) (c.instances_grow.ensures old first early (definitions s) _ refs instanced.found) in
     record {
-      named = c.in_ok-naming.ensures.named s (keeps.definitions old last grown _ _ survey.prelude_read) (keeps.definitions old last grown _ _ own);
       asked = c.questions_grow.ensures first last late (rules s) root _ asked;
       entries = c.in_ok-entries.ensures.asked s root refs tree right.clear own_there entry_sites instances entry_found;
       opens = c.in_ok-opens.ensures s root tree survey opened_sites;

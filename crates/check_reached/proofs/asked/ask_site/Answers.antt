@@ -5,6 +5,9 @@ use Rattle.check_sites.specs.Sites.View.{view_site}
 use Rattle.tree_nodes.specs.View.{token_of}
 use Rattle.check_reached.proofs.asked.ask_site.Goals as goal
 
+pub returns-clause-texts : goal.returns-clause-texts
+returns-clause-texts c = on_ok c.ask-2.result _ _ (λ e. e ∙ c.in_ok-ask.ensures.texts) c.ask-2.ensures.texts
+
 pub returns-clause-answers : goal.returns-clause-answers
 returns-clause-answers c = on_ok c.ask-2.result _ _ (λ h ps refs ws run so.
     let read = token_of c.args.tree.now in

@@ -1,4 +1,4 @@
-use Rattle.std.proofs.Common.{List, drop, slice_get}
+use Rattle.std.proofs.Common.{◌≡◌, List, drop, slice_get}
 use Rattle.tree_nodes.specs.Syntax.Syntax.{Rule}
 use Rattle.cddl_language.specs.Terms.{Ref}
 use Rattle.check_names.specs.Environment.Places.{lists}
@@ -13,6 +13,7 @@ use Rattle.check_reached.proofs.entries.ask_entries.Given as goal
 abbrev pub invariant-loop-entry : goal.invariant-loop-entry
 invariant-loop-entry l = record {
   grown : Grows l.fn.terms l.terms;
+  texts : l.terms.texts ≡ l.fn.terms.texts;
   serves : (rs : List Rule) (refs : List Ref) → AreReady l.fn.terms rs refs (lists l.calls) l.definitions → IsRunFor l.terms refs (slice_get rs l.run.rule) l.run;
   done : (rs : List Rule) (refs : List Ref) → AreReady l.fn.terms rs refs (lists l.calls) l.definitions → IsGoing TextEntry (wanted_entry (token_of l.tree) rs refs) l.listed l.terms (drop l.entry-index l.listed) l.asked.items;
 }
