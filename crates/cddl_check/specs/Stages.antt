@@ -1,10 +1,11 @@
 -- What each stage has found.
-use Rattle.std.specs.Prelude.{◌≡◌, ◌≤◌, List, length, Option, Some, None, slice_get}
+use Rattle.std.specs.Prelude.{◌≡◌, ◌≤◌, List, length, map, Option, Some, None, slice_get}
 use Rattle.cddl_language.specs.Terms.{Definition, Ref, Text}
 use Rattle.cddl_language.specs.Faults.{HasBadController, HasBadRange, HasNotLiteral, HasTooManyInstances, IsFaultAt, Specification, definitions, root_of, rules}
 use Rattle.cddl_language.specs.Literals.{AreRight, AreTokens, Values}
 use Rattle.cddl_language.specs.Prelude.{prelude}
 use Rattle.cddl_language.specs.Reach.{most_instances}
+use Rattle.cddl_language.specs.Reading.{name_at}
 use Rattle.cddl_language.specs.StandsFor.{AreInstances}
 use Rattle.tree_nodes.specs.declared.tree.Tree.{Tree}
 use Rattle.tree_nodes.specs.View.{token_of, view}
@@ -68,12 +69,13 @@ pub record IsInstanced (s : Specification) (root : Text) (refs : List Ref) (t : 
   pub number : slice_get t.texts x.root ≡ Some root
   pub found : AreFound (definitions s) t x.instances.items refs
 
--- The definitions, their names and the kinds of these, by the numbers of the table.
+-- The definitions, their names and the kinds of these, by the numbers of the table, and where each rule begins.
 pub record IsNamed (s : Specification) (t : Table) (v : Survey) : Type 0 where
   pub known : AreDefinitions t v.known.items prelude
   pub defined : AreDefinitions t v.definitions.items (definitions s)
   pub names : AreNames (length t.texts) v.known.items v.definitions.items v.names.items
   pub kinds : AreKinds t.texts (definitions s) v.kinds
+  pub starts : v.starts.items ≡ map name_at (rules s)
 
 -- What is asked of at the sites that the root reaches, and the least of those where `~` opens wrongly.
 pub record IsAsking (s : Specification) (root : Text) (t : Table) (x : Questions) : Type 0 where
@@ -124,6 +126,7 @@ pub record IsReading (s : Specification) (worth : Values) (root : Text) (refs : 
   pub right : IsRight s worth
   pub rooted : IsRooted s root refs tree x.instanced
   pub number : slice_get t.texts x.instanced.root ≡ Some root
+  pub survey : IsSurvey t tree x.survey
   pub named : IsNamed s t x.survey
   pub asking : IsAsking s root t x.questions
   pub meant : IsMeant (definitions s) worth root refs t x.meant

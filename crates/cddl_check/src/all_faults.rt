@@ -6,7 +6,6 @@ ghost use Rattle.cddl_language.specs.Faults.{HasBadController, HasBadRange, HasN
 ghost use Rattle.cddl_language.specs.Literals.{AreRight, AreTokens, Values};
 ghost use Rattle.cddl_language.specs.Terms.{Ref, Text};
 ghost use Rattle.check_recursion.specs.Order.{IsOrder};
-ghost use Rattle.check_root.specs.ReachedFaults.Unwrapping.{OpensWrongly};
 ghost use Rattle.tree_nodes.specs.View.{view};
 ghost use Rattle.tree_nodes.specs.declared.tree.Tree.{Tree as Trees};
 ghost use Rattle.cddl_check.specs.Outcome.{specification};
@@ -16,7 +15,7 @@ ghost use Rattle.cddl_check.specs.declared.stopped.Stopped.TheVariants as Why;
 
 use crate::faults::order_of;
 use crate::mapping::maps_of;
-use crate::reading::{Reading, begin_tree, finish_tree};
+use crate::reading::{Reading, read_tree};
 use crate::stopped::Stopped;
 use check_recursion::Order;
 use check_root::control_faults::{all_bad_controller, all_not_literal};
@@ -95,27 +94,24 @@ fn faults_in<'s>(
     ensures early { IfErr result (λ e. (s : Specification) (worth : Values) → IsGiven s worth tree.now (option_map (λ t. t.now) given.entry) → HasEarlyFault s worth e) }
 {
     codes_are_in_order();
-    let begun = begin_tree(alloc, terms, tree, given)?;
-    let opens = all_not_unwrapped(alloc, terms, tree, &begun.survey, &begun.instanced.reached)?;
-    let reading = finish_tree(alloc, terms, tree, begun)?;
-    let found = faults_of(alloc, terms, tree, &reading, opens)?;
+    let reading = read_tree(alloc, terms, tree, given)?;
+    let found = faults_of(alloc, terms, tree, &reading)?;
     Ok(found)
 }
 
-// The same of a reading, with the offsets of `~` that opens wrongly.
+// The same of a reading.
 fn faults_of(
     alloc: Global,
     terms: &Terms<'_>,
     tree: &Tree<'_>,
     reading: &Reading<'_>,
-    opens: Vec<usize>,
 ) -> Result<RootFaults, Stopped>
-    ensures found { IfOk result (λ x. (s : Specification) (worth : Values) (root : Text) (refs : List Ref) → s.tree ≡ view tree.now → AreTokens s.tree → AreRight s.tree worth → IsReading s worth root refs terms.now tree.now reading.now → AreOffsets (OpensWrongly s root) opens.items → AreFaults s worth x) }
+    ensures found { IfOk result (λ x. (s : Specification) (worth : Values) (root : Text) (refs : List Ref) → s.tree ≡ view tree.now → AreTokens s.tree → AreRight s.tree worth → IsReading s worth root refs terms.now tree.now reading.now → AreFaults s worth x) }
     ensures memory { IfErr result (λ e. e ≡ Why.Memory) }
 {
-    let not_unwrappable = unwrappings(alloc, terms, reading, opens)?;
+    let not_unwrappable = unwrappings(alloc, terms, tree, reading)?;
     let order = order_of(alloc, terms, reading)?;
-    let recursion = recursions(alloc, terms, tree, reading, &order)?;
+    let recursion = recursions(alloc, terms, reading, &order)?;
     let not_literal = literals_of(alloc, terms, reading)?;
     let bad_range = ranges_of(alloc, terms, tree, reading)?;
     let bad_controller = controllers_of(alloc, terms, reading)?;
@@ -136,11 +132,13 @@ fn faults_of(
 fn unwrappings(
     alloc: Global,
     terms: &Terms<'_>,
+    tree: &Tree<'_>,
     reading: &Reading<'_>,
-    opens: Vec<usize>,
 ) -> Result<Vec<usize>, AllocError>
-    ensures { IfOk result (λ v. (s : Specification) (worth : Values) (tree : Trees) (root : Text) (refs : List Ref) → IsReading s worth root refs terms.now tree reading.now → AreOffsets (OpensWrongly s root) opens.items → AreOffsets (HasNotUnwrappable s root) v.items) }
+    ensures { IfOk result (λ v. (s : Specification) (worth : Values) (root : Text) (refs : List Ref) → s.tree ≡ view tree.now → IsReading s worth root refs terms.now tree.now reading.now → AreOffsets (HasNotUnwrappable s root) v.items) }
 {
+    let reached = &reading.instanced.reached;
+    let opens = all_not_unwrapped(alloc, terms, tree, &reading.survey, reached)?;
     let meant = &reading.meant;
     let asked = &reading.questions.asked;
     let chooses = all_nothing_chosen(alloc, terms, &meant.closed, &meant.choosable, asked)?;
@@ -151,14 +149,14 @@ fn unwrappings(
 fn recursions(
     alloc: Global,
     terms: &Terms<'_>,
-    tree: &Tree<'_>,
     reading: &Reading<'_>,
     order: &Order,
 ) -> Result<Vec<usize>, AllocError>
-    ensures { IfOk result (λ v. (s : Specification) (worth : Values) (root : Text) (refs : List Ref) → s.tree ≡ view tree.now → IsReading s worth root refs terms.now tree.now reading.now → IsOrder (definitions s) root refs terms.now order.now → AreOffsets (HasRecursion s root) v.items) }
+    ensures { IfOk result (λ v. (s : Specification) (worth : Values) (tree : Trees) (root : Text) (refs : List Ref) → IsReading s worth root refs terms.now tree reading.now → IsOrder (definitions s) root refs terms.now order.now → AreOffsets (HasRecursion s root) v.items) }
 {
-    let names = &reading.survey.names;
-    all_recursion(alloc, terms, tree, names, &reading.meant.closed, order)
+    let survey = &reading.survey;
+    let closed = &reading.meant.closed;
+    all_recursion(alloc, terms, &survey.starts, &survey.names, closed, order)
 }
 
 // All offsets of what has to be a literal and is none.

@@ -45,7 +45,7 @@ pub(crate) fn ranks_of(
         return Err(refused(Code::NotUnwrappable, at));
     }
     let order = order_of(alloc, terms, reading)?;
-    let ranks = ranks_in(terms, tree, reading, order)?;
+    let ranks = ranks_in(terms, reading, order)?;
     check_values(terms, tree, reading)?;
     splice_maps(alloc, terms, reading)?;
     Ok(ranks)
@@ -89,17 +89,12 @@ fn splice_maps(alloc: Global, terms: &Terms<'_>, reading: &Reading<'_>) -> Resul
 }
 
 // The ranks of an order in which nothing comes back to itself; or the least offset of what does.
-fn ranks_in(
-    terms: &Terms<'_>,
-    tree: &Tree<'_>,
-    reading: &Reading<'_>,
-    order: Order,
-) -> Result<Ranks, Stopped>
+fn ranks_in(terms: &Terms<'_>, reading: &Reading<'_>, order: Order) -> Result<Ranks, Stopped>
     ensures ranked { IfOk result (λ r. order ≡ Orders.Ranks r) }
-    ensures clear { OnOk result ((s : Specification) (worth : Values) (root : Text) (refs : List Ref) → s.tree ≡ view tree.now → IsReading s worth root refs terms.now tree.now reading.now → IsOrder (definitions s) root refs terms.now order → IsLeast (HasRecursion s root) None) }
-    ensures told { IfErr result (λ e. (s : Specification) (worth : Values) (root : Text) (refs : List Ref) → s.tree ≡ view tree.now → IsReading s worth root refs terms.now tree.now reading.now → IsOrder (definitions s) root refs terms.now order → IsTold (HasRecursion s root) Code.Recursion e) }
+    ensures clear { OnOk result ((s : Specification) (worth : Values) (tree : Trees) (root : Text) (refs : List Ref) → IsReading s worth root refs terms.now tree reading.now → IsOrder (definitions s) root refs terms.now order → IsLeast (HasRecursion s root) None) }
+    ensures told { IfErr result (λ e. (s : Specification) (worth : Values) (tree : Trees) (root : Text) (refs : List Ref) → IsReading s worth root refs terms.now tree reading.now → IsOrder (definitions s) root refs terms.now order → IsTold (HasRecursion s root) Code.Recursion e) }
 {
-    let first = recursion_of(terms, tree, reading, &order);
+    let first = recursion_of(terms, reading, &order);
     match order {
         Order::Ranks(ranks) => Ok(ranks),
         // Where something is on a cycle, a fault is told of it.
@@ -139,16 +134,12 @@ pub(crate) fn order_of(
 }
 
 // The least offset of what comes back to itself.
-fn recursion_of(
-    terms: &Terms<'_>,
-    tree: &Tree<'_>,
-    reading: &Reading<'_>,
-    order: &Order,
-) -> Option<usize>
-    ensures { (s : Specification) (worth : Values) (root : Text) (refs : List Ref) → s.tree ≡ view tree.now → IsReading s worth root refs terms.now tree.now reading.now → IsOrder (definitions s) root refs terms.now order.now → IsLeast (HasRecursion s root) result }
+fn recursion_of(terms: &Terms<'_>, reading: &Reading<'_>, order: &Order) -> Option<usize>
+    ensures { (s : Specification) (worth : Values) (tree : Trees) (root : Text) (refs : List Ref) → IsReading s worth root refs terms.now tree reading.now → IsOrder (definitions s) root refs terms.now order.now → IsLeast (HasRecursion s root) result }
 {
-    let names = &reading.survey.names;
-    recursion(terms, tree, names, &reading.meant.closed, order)
+    let survey = &reading.survey;
+    let closed = &reading.meant.closed;
+    recursion(terms, &survey.starts, &survey.names, closed, order)
 }
 
 // The least offset of what has to be a literal and is none.

@@ -20,6 +20,7 @@ use crate::stopped::Stopped;
 use crate::text::clear_text;
 use check_reached::laws::{entry_questions_grow, instances_grow, questions_grow};
 use check_reading::survey::Survey;
+use check_reading::survey::laws::survey_grows;
 use check_terms::Terms;
 use check_terms::laws::growing_keeps;
 use std::alloc::Global;
@@ -37,7 +38,7 @@ pub(crate) struct Reading<'t> {
 
 /// The survey of a text in which nothing is wrong, and what its root leads to: no more instances than may be.
 #[derive(Drop)]
-pub(crate) struct Begun<'t> {
+struct Begun<'t> {
     pub survey: Survey<'t>,
     pub instanced: Instanced<'t>,
 }
@@ -51,6 +52,7 @@ pub(crate) fn read_tree<'s, 't>(
 ) -> Result<Reading<'t>, Stopped>
     ensures read { IfOk result (λ x. (s : Specification) (worth : Values) → IsGiven s worth tree.now (option_map (λ t. t.now) given.entry) → (root : Text) × (refs : List Ref) × IsReading s worth root refs terms.new tree.now x) }
     ensures stopped { IfErr result (λ e. (s : Specification) (worth : Values) → IsGiven s worth tree.now (option_map (λ t. t.now) given.entry) → IsStopped s worth e) }
+    ensures early { IfErr result (λ e. (s : Specification) (worth : Values) → IsGiven s worth tree.now (option_map (λ t. t.now) given.entry) → IsEarly e) }
 {
     let begun = begin_tree(alloc, terms, tree, given)?;
     let reading = finish_tree(alloc, terms, tree, begun)?;
@@ -58,7 +60,7 @@ pub(crate) fn read_tree<'s, 't>(
 }
 
 // The text, and what its root leads to; or the first fault of C1 to C10.
-pub(crate) fn begin_tree<'s, 't>(
+fn begin_tree<'s, 't>(
     alloc: Global,
     terms: &mut Terms<'s>,
     tree: &'t Tree<'s>,
@@ -74,7 +76,7 @@ pub(crate) fn begin_tree<'s, 't>(
 }
 
 // What is found of it from there on.
-pub(crate) fn finish_tree<'s, 't>(
+fn finish_tree<'s, 't>(
     alloc: Global,
     terms: &mut Terms<'s>,
     tree: &'t Tree<'s>,
@@ -87,12 +89,14 @@ pub(crate) fn finish_tree<'s, 't>(
     instances_grow();
     questions_grow();
     entry_questions_grow();
+    survey_grows();
     let Begun { survey, instanced } = begun;
     let questions = ask(alloc, terms, tree, &survey, &instanced)?;
     let most = survey.known.len() + survey.definitions.len();
     let kinds = &survey.kinds;
     let meant = close_instances(alloc, terms, &instanced.instances, kinds, most)?;
     let splices = splices_of(alloc, terms, kinds, &meant)?;
+    terms.len();
     Ok(Reading {
         survey,
         instanced,

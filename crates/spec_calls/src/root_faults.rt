@@ -2,7 +2,6 @@
 
 use crate::chain::{Meant, sites_in};
 use crate::roots_told::{order_in, text_in};
-use check_names::environment::names;
 use check_reading::survey::Survey;
 use check_root::control_faults::{bad_controller, not_literal};
 use check_root::range_faults::bad_range;
@@ -42,7 +41,7 @@ fn fault_at(
         "unwrapped" => unwrapping(alloc, terms, tree, survey, meant, reached)?,
         "literal" | "number" => of_controller(terms, meant, what),
         "range" => range_in(terms, tree, meant, reached),
-        _ => returning(alloc, terms, tree, survey, meant)?,
+        _ => returning(alloc, terms, survey, meant)?,
     };
     match at {
         Some(at) => format!(in alloc; "{at} ").ok(),
@@ -91,12 +90,11 @@ fn range_in(
 fn returning(
     alloc: Global,
     terms: &Terms<'_>,
-    tree: &Tree<'_>,
     survey: &Survey<'_>,
     meant: &Meant<'_>,
 ) -> Option<Option<usize>> {
-    let count = terms.text_count();
-    let names = names(alloc, count, &survey.known, &survey.definitions).ok()?;
     let order = order_in(alloc, terms, meant)?;
-    Some(recursion(terms, tree, &names, &meant.opened.closed, &order))
+    let closed = &meant.opened.closed;
+    let names = &survey.names;
+    Some(recursion(terms, &survey.starts, names, closed, &order))
 }

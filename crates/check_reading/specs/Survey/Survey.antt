@@ -3,7 +3,7 @@ use Rattle.std.specs.Prelude.{◌≡◌, ℕ, List, length, map, Some, slice_get
 use Rattle.cddl_language.specs.Terms as L
 use Rattle.cddl_language.specs.Terms.{Text}
 use Rattle.cddl_language.specs.Prelude.{prelude}
-use Rattle.cddl_language.specs.Reading.{definitions_in, rules_of}
+use Rattle.cddl_language.specs.Reading.{definitions_in, name_at, rules_of}
 use Rattle.tree_nodes.specs.declared.tree.Tree.{Tree}
 use Rattle.tree_nodes.specs.View.{token_of, view}
 use Rattle.check_terms.specs.Definitions.{AreDefinitions}
@@ -28,5 +28,6 @@ pub record IsSurvey (t : Table) (tree : Tree) (s : Survey) : Type 0 where
   pub names_found : AreNames (length t.texts) s.known.items s.definitions.items s.names.items
   pub names_stand : (k : ℕ) (n : Text) (v : Name) → slice_get t.texts k ≡ Some n → slice_get s.names.items k ≡ Some v → IsStanding (defined_in tree) n (standing v)
   pub kinds_found : AreKinds t.texts (defined_in tree) s.kinds
+  pub starts_found : s.starts.items ≡ map name_at (rules_of (view tree))
   pub sites_found : map (view_found (token_of tree)) s.sites.items ≡ all_sites (rules_of (view tree))
   pub outer_found : map (view_found (token_of tree)) (outside s.sites.items) ≡ all_outer_sites (rules_of (view tree))

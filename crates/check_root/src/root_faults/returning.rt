@@ -1,10 +1,10 @@
 //! Instances that come back to themselves before an item is taken or gone into (C12).
 
-ghost use Rattle.std.specs.Prelude.{◌≡◌, IfOk, List, length};
+ghost use Rattle.std.specs.Prelude.{◌≡◌, IfOk, List, length, map};
 ghost use Rattle.all_offsets.specs.Offsets.{AreOffsets, IsAtPlace, IsSaid};
 ghost use Rattle.check_instances.specs.Closed.Closed.{IsClosed};
 ghost use Rattle.check_names.specs.Environment.Names.{AreNames};
-ghost use Rattle.cddl_language.specs.Faults.{HasRecursion, Specification, definitions as definitions_of};
+ghost use Rattle.cddl_language.specs.Faults.{HasRecursion, Specification, definitions as definitions_of, rules};
 ghost use Rattle.cddl_language.specs.Prelude.{prelude};
 ghost use Rattle.cddl_language.specs.Reading.{name_at};
 ghost use Rattle.cddl_language.specs.Terms.{Ref, Text};
@@ -14,7 +14,6 @@ ghost use Rattle.check_root.specs.RootFaults.Starts.{least_start, or_first_byte}
 ghost use Rattle.lists.specs.Least.{IsLeast};
 ghost use Rattle.check_terms.specs.Definitions.{AreDefinitions};
 ghost use Rattle.check_terms.specs.declared.definition.Definition.{Definition};
-ghost use Rattle.tree_nodes.specs.View.{token_of, view, view_rule};
 
 use all_offsets::{push_found, sort};
 use check_instances::closed::Closed;
@@ -25,28 +24,28 @@ use check_recursion::Order;
 use check_terms::Terms;
 use lists::lesser;
 use std::alloc::{AllocError, Global};
-use tree_nodes::{Rule, Tree};
 
 /// The least offset of the first rule of a name whose instance comes back to itself (C12): by itself, after `~` or after `&` it
 /// asks itself before an item is taken or gone into, which RFC 8610 does not say the meaning of. A name that the prelude alone
 /// defines has no rule; where no name that comes back has one, it is told at the first byte.
 ///
-/// The rows and the numbers of names are of this table. It takes a time in proportion to the instances.
+/// The rows and the numbers of names are of this table, and the offsets are those of the rules' names in the order of the text,
+/// as a survey has them. It takes a time in proportion to the instances.
 pub fn recursion(
     terms: &Terms<'_>,
-    tree: &Tree<'_>,
+    starts: &[usize],
     names: &[Name],
     closed: &Closed,
     order: &Order,
 ) -> Option<usize>
-    ensures { (s : Specification) (root : Text) (refs : List Ref) (known definitions : List Definition) → s.tree ≡ view tree.now → AreDefinitions terms.now known prelude → AreDefinitions terms.now definitions (definitions_of s) → AreNames (length terms.now.texts) known definitions names.now → IsClosed (definitions_of s) root refs terms.now closed.now → IsOrder (definitions_of s) root refs terms.now order.now → IsLeast (HasRecursion s root) result }
+    ensures { (s : Specification) (root : Text) (refs : List Ref) (known definitions : List Definition) → starts.now ≡ map name_at (rules s) → AreDefinitions terms.now known prelude → AreDefinitions terms.now definitions (definitions_of s) → AreNames (length terms.now.texts) known definitions names.now → IsClosed (definitions_of s) root refs terms.now closed.now → IsOrder (definitions_of s) root refs terms.now order.now → IsLeast (HasRecursion s root) result }
 {
     names_stand();
     meaning_at();
     match order {
         Order::Ranks(_) => None,
         Order::Cycles(flags) => {
-            let first = least_start(terms, tree, names, closed, flags);
+            let first = least_start(terms, starts, names, closed, flags);
             Some(first.unwrap_or(0))
         }
     }
@@ -59,19 +58,19 @@ pub fn recursion(
 pub fn all_recursion(
     alloc: Global,
     terms: &Terms<'_>,
-    tree: &Tree<'_>,
+    starts: &[usize],
     names: &[Name],
     closed: &Closed,
     order: &Order,
 ) -> Result<Vec<usize>, AllocError>
-    ensures { IfOk result (λ v. (s : Specification) (root : Text) (refs : List Ref) (known definitions : List Definition) → s.tree ≡ view tree.now → AreDefinitions terms.now known prelude → AreDefinitions terms.now definitions (definitions_of s) → AreNames (length terms.now.texts) known definitions names.now → IsClosed (definitions_of s) root refs terms.now closed.now → IsOrder (definitions_of s) root refs terms.now order.now → AreOffsets (HasRecursion s root) v.items) }
+    ensures { IfOk result (λ v. (s : Specification) (root : Text) (refs : List Ref) (known definitions : List Definition) → starts.now ≡ map name_at (rules s) → AreDefinitions terms.now known prelude → AreDefinitions terms.now definitions (definitions_of s) → AreNames (length terms.now.texts) known definitions names.now → IsClosed (definitions_of s) root refs terms.now closed.now → IsOrder (definitions_of s) root refs terms.now order.now → AreOffsets (HasRecursion s root) v.items) }
 {
     names_stand();
     meaning_at();
     match order {
         Order::Ranks(_) => Ok(Vec::new(alloc)),
         Order::Cycles(flags) => {
-            or_first_byte(all_starts(alloc, terms, tree, names, closed, flags)?)
+            or_first_byte(all_starts(alloc, terms, starts, names, closed, flags)?)
         }
     }
 }
@@ -90,16 +89,16 @@ fn or_first_byte(mut offsets: Vec<usize>) -> Result<Vec<usize>, AllocError>
 fn all_starts(
     alloc: Global,
     terms: &Terms<'_>,
-    tree: &Tree<'_>,
+    starts: &[usize],
     names: &[Name],
     closed: &Closed,
     flags: &[bool],
 ) -> Result<Vec<usize>, AllocError>
-    ensures { IfOk result (λ v. AreOffsets (IsAtPlace (IsSaid (by.start_if terms.now tree.now names.now closed.now)) flags.now) v.items) }
+    ensures { IfOk result (λ v. AreOffsets (IsAtPlace (IsSaid (by.start_if terms.now starts.now names.now closed.now)) flags.now) v.items) }
 {
     let mut offsets = Vec::new(alloc);
     for (place, flag) in flags.iter().enumerate() {
-        let start = start_if(terms, tree, names, closed, place, *flag);
+        let start = start_if(terms, starts, names, closed, place, *flag);
         push_found(&mut offsets, start)?;
     }
     sort(&mut offsets);
@@ -109,32 +108,32 @@ fn all_starts(
 // The least offset of the first rules of the names of all instances with a flag.
 fn least_start(
     terms: &Terms<'_>,
-    tree: &Tree<'_>,
+    starts: &[usize],
     names: &[Name],
     closed: &Closed,
     flags: &[bool],
 ) -> Option<usize>
-    ensures { result ≡ least_start terms.now tree.now names.now closed.now flags.now }
+    ensures { result ≡ least_start terms.now starts.now names.now closed.now flags.now }
 {
     let mut least = None;
     for (place, flag) in flags.iter().enumerate() {
-        least = lesser(least, start_if(terms, tree, names, closed, place, *flag));
+        least = lesser(least, start_if(terms, starts, names, closed, place, *flag));
     }
     least
 }
 
 fn start_if(
     terms: &Terms<'_>,
-    tree: &Tree<'_>,
+    starts: &[usize],
     names: &[Name],
     closed: &Closed,
     place: usize,
     flag: bool,
 ) -> Option<usize>
-    ensures { result ≡ by.start_if terms.now tree.now names.now closed.now place flag }
+    ensures { result ≡ by.start_if terms.now starts.now names.now closed.now place flag }
 {
     if flag {
-        start_at(terms, tree, names, closed, place)
+        start_at(terms, starts, names, closed, place)
     } else {
         None
     }
@@ -143,23 +142,15 @@ fn start_if(
 // The offset of the first rule of the name of the instance at this place, if a rule defines it.
 fn start_at(
     terms: &Terms<'_>,
-    tree: &Tree<'_>,
+    starts: &[usize],
     names: &[Name],
     closed: &Closed,
     place: usize,
 ) -> Option<usize>
-    ensures { result ≡ by.start_at terms.now tree.now names.now closed.now place }
+    ensures { result ≡ by.start_at terms.now starts.now names.now closed.now place }
 {
     let meaning = closed.meanings.get(place)?;
     let number = terms.row(meaning.call)?.text?;
     let first = names.get(number as usize)?.first?;
-    let rule = tree.rules.get(first)?;
-    Some(start_of(tree, rule))
-}
-
-// The offset of the name that a rule defines.
-fn start_of(tree: &Tree<'_>, rule: &Rule) -> usize
-    ensures { result ≡ name_at (view_rule (token_of tree.now) rule.now) }
-{
-    rule.start(tree)
+    starts.get(first).copied()
 }

@@ -14,9 +14,9 @@ returns-in-Ranks c s root refs known own of pre text are closed order =
 pub returns-in-Cycles : goal.returns-in-Cycles
 returns-in-Cycles c s root refs known own of pre text are closed order =
     let t = c.args.terms.now in
-    let tree = c.args.tree.now in
+    let starts = c.args.starts.now in
     let names = c.args.names.now in
     let flags = c.deref.result.now in
     let told = subst (IsOrder (definitions s) root refs t) c.in-Cycles.is order in
     let cycles : AreCycles (definitions s) root refs flags = subst (AreCycles (definitions s) root refs) (sym c.deref.ensures.value) told in
-    subst (λ v. IsLeast (HasRecursion s root) (Some v)) (sym c.unwrap_or.ensures) (subst (λ o. IsLeast (HasRecursion s root) (Some (unwrap_or o 0))) (sym c.least_start-first.ensures) (least_recursion t tree names c.args.closed.now s root refs of are.all (λ k n v e f. c.names_stand.ensures t (length t.texts) k known own names (definitions s) n v closed.table pre text are e f) (λ k r e. c.meaning_at.ensures (definitions s) root refs t c.args.closed.now k r closed e) flags cycles closed.instances.all))
+    subst (λ v. IsLeast (HasRecursion s root) (Some v)) (sym c.unwrap_or.ensures) (subst (λ o. IsLeast (HasRecursion s root) (Some (unwrap_or o 0))) (sym c.least_start-first.ensures) (least_recursion t starts names c.args.closed.now s root refs of are.all (λ k n v e f. c.names_stand.ensures t (length t.texts) k known own names (definitions s) n v closed.table pre text are e f) (λ k r e. c.meaning_at.ensures (definitions s) root refs t c.args.closed.now k r closed e) flags cycles closed.instances.all))
