@@ -22,7 +22,7 @@ use check_reached::laws::{entry_questions_grow, instances_grow, questions_grow};
 use check_reading::survey::Survey;
 use check_reading::survey::laws::survey_grows;
 use check_terms::Terms;
-use check_terms::laws::growing_keeps;
+use check_terms::laws::{growing_keeps, is_table};
 use std::alloc::Global;
 use tree_nodes::Tree;
 
@@ -96,7 +96,7 @@ fn finish_tree<'s, 't>(
     let kinds = &survey.kinds;
     let meant = close_instances(alloc, terms, &instanced.instances, kinds, most)?;
     let splices = splices_of(alloc, terms, kinds, &meant)?;
-    terms.len();
+    is_table(terms);
     Ok(Reading {
         survey,
         instanced,

@@ -287,11 +287,7 @@ pub(crate) fn row_of<'s>(
 }
 
 // The row of the node.
-fn read_node<'s>(
-    terms: &mut Terms<'s>,
-    tree: &Tree<'s>,
-    node: Node<'_>,
-) -> Result<u32, NoRoom>
+fn read_node<'s>(terms: &mut Terms<'s>, tree: &Tree<'s>, node: Node<'_>) -> Result<u32, NoRoom>
     ensures grows { Grows terms.old terms.new }
     ensures stands { IfOk result (λ n. Holds terms.new (Some n) (node_tree (token_of tree.now) node.entry)) }
 {
