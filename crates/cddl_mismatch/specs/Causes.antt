@@ -1,5 +1,5 @@
 -- What a reason says, as it is told.
-use Rattle.std.specs.Prelude.{Bool, List, [], ◌∷◌, ◌++◌}
+use Rattle.std.specs.Prelude.{Bool, true, false, List, [], ◌∷◌, ◌++◌}
 use Rattle.table_nodes.specs.declared.nodes.Content.{Content}
 use Rattle.table_nodes.specs.declared.nodes.Content.TheVariants.{OneItem, Sequence}
 use Rattle.type_links.specs.declared.link.Link.{Link}
@@ -39,3 +39,13 @@ link_in (NothingHeld content) = []
 -- what led to what the reason is about, step by step
 abbrev pub chain_of : Reason → List Link
 chain_of r = r.links.items ++ link_in r.cause
+
+-- whether it names the key of an entry
+abbrev pub names_key : Cause → Bool
+names_key (Few key count least) = true
+names_key (Many key count most later) = true
+names_key Value = false
+names_key (Missing member) = false
+names_key TooMuch = false
+names_key Stray = false
+names_key (NothingHeld content) = false

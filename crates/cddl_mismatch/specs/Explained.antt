@@ -27,7 +27,8 @@ use Rattle.cddl_reasons.specs.declared.causes.Reason.{Reason}
 use Rattle.cddl_reasons.specs.declared.causes.Reasons.{Reasons}
 use Rattle.mismatch_words.specs.Lines.{told_lines, with_line}
 use Rattle.mismatch_words.specs.Reasons.{root_line}
-use Rattle.cddl_mismatch.specs.Causes.{chain_of, told_cause}
+use Rattle.cddl_mismatch.specs.Causes.{chain_of, names_key, told_cause}
+use Rattle.cddl_mismatch.specs.Keys.{told_place}
 use Rattle.cddl_mismatch.specs.Lines.{IsLineAt}
 use Rattle.cddl_mismatch.specs.Places.{ArePlaceWords}
 use Rattle.cddl_mismatch.specs.declared.reasons.TheConstants.{MOST}
@@ -38,8 +39,11 @@ abbrev pub IsPlaceOf : Sources → List Link → Option Place → Type 0
 IsPlaceOf x chain (Some p) = (s : Sense) (table : Table) (known : AreSources s table x) → IsPlace (rules_of s.tree) (IsNameOfType s known.terms known.nodes) chain p
 IsPlaceOf x chain None = (s : Sense) (table : Table) (known : AreSources s table x) → (m : Link) → Contains chain m → IsOfNoRule (rules_of s.tree) (IsNameOfType s known.terms known.nodes) m
 
+-- Where the key that the cause names stands nowhere in the text, its link leads to what those before it lead to: of that only the
+-- beginning is told.
 abbrev pub IsPlaced : Sources → Reason → Option Place → Type 0
-IsPlaced x r p = IsPlaceOf x (chain_of r) p
+IsPlaced x r None = IsPlaceOf x (chain_of r) None
+IsPlaced x r (Some p) = (named : Place) × (holder : Option Place) × IsPlaceOf x (chain_of r) (Some named) × IsPlaceOf x r.links.items holder × (p ≡ told_place (names_key r.cause) named holder)
 
 module _ (text : List ℕ) (tokens : List Token) (file : List ℕ) where
   -- The line tells the place and what is there, in byte strings too, where the type stands, and what is wrong.

@@ -4,6 +4,7 @@
 
 mod causes;
 mod explained;
+mod keys;
 mod lines;
 mod places;
 mod reasons;

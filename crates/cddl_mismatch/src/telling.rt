@@ -3,9 +3,11 @@
 ghost use Rattle.std.specs.Prelude.{◌≡◌, ◌<◌, ◌++◌, ◌∷◌, [], List, IfOk, None, Some, length, map, option_map, slice_get, string_bytes};
 ghost use Rattle.cddl_reasons.specs.declared.causes.Reason.{Reason as AnyReason};
 ghost use Rattle.cddl_sources.specs.declared.sources.Sources.{Sources as AllSources};
-ghost use Rattle.cddl_mismatch.specs.Explained.{AreLines, AreTold, IsPlaced, IsToldOf, IsToldOfRoot};
+ghost use Rattle.cddl_mismatch.specs.Causes.{chain_of};
+ghost use Rattle.cddl_mismatch.specs.Explained.{AreLines, AreTold, IsPlaceOf, IsPlaced, IsToldOf, IsToldOfRoot};
 
 use crate::causes::{chain_of, told_cause};
+use crate::keys::told_place;
 use crate::lines::{Source, line_at};
 use crate::places::place_words;
 use cbor_item::Sound;
@@ -13,6 +15,7 @@ use cddl_reasons::{Reason, Reasons};
 use cddl_sources::{Place, Sources};
 use mismatch_words::{push_line, root_line, told_lines};
 use std::alloc::{AllocError, Global};
+use type_links::Link;
 
 // What is told of these reasons.
 pub(crate) fn told_of(
@@ -107,12 +110,34 @@ fn add_root_line(
     }
 }
 
-// Where the last type of a reason stands.
+// Where the last type of a reason stands, or the key that it names.
 fn place_of(alloc: Global, sources: &Sources, reason: &Reason) -> Result<Option<Place>, AllocError>
     ensures { IfOk result (λ place. IsPlaced sources.now reason.now place) }
 {
+    let Some(named) = named_place(alloc, sources, reason)? else {
+        return Ok(None);
+    };
+    let holder = place_by(alloc, sources, &reason.links)?;
+    Ok(Some(told_place(reason.cause, named, holder)))
+}
+
+// Where what the links of a reason and its cause lead to stands.
+fn named_place(
+    alloc: Global,
+    sources: &Sources,
+    reason: &Reason,
+) -> Result<Option<Place>, AllocError>
+    ensures { IfOk result (λ place. IsPlaceOf sources.now (chain_of reason.now) place) }
+{
     let chain = chain_of(alloc, reason)?;
     sources.place(alloc, &chain)
+}
+
+// Where what these links lead to stands.
+fn place_by(alloc: Global, sources: &Sources, links: &[Link]) -> Result<Option<Place>, AllocError>
+    ensures { IfOk result (λ place. IsPlaceOf sources.now links.now place) }
+{
+    sources.place(alloc, links)
 }
 
 // The line of a reason whose last type stands at this place.

@@ -1,13 +1,18 @@
 -- What is said of what is wrong, behind the name of the rule.
-use Rattle.std.specs.Prelude.{ℕ, ◌==◌, Bool, true, false, List, [], ◌++◌, codes, decimal, if◌then◌else◌}
+use Rattle.std.specs.Prelude.{ℕ, ◌==◌, Bool, true, false, List, [], ◌∷◌, ◌++◌, codes, decimal, if◌then◌else◌}
 use Rattle.mismatch_words.specs.declared.causes.Cause.{Cause}
 use Rattle.mismatch_words.specs.declared.causes.Cause.TheVariants.{Value, MemberMissing, MemberTooMuch, PairStray, KeyTooFew, KeyTooMany, NoItem, NoSequence}
+
+-- the key, with this behind the word; where it stands nowhere in the text as it is meant, no more than that it is one
+abbrev pub key_words : List ℕ → List ℕ → List ℕ
+key_words colon [] = codes "a key"
+key_words colon (b ∷ bs) = codes "the key" ++ (colon ++ (codes " " ++ (b ∷ bs)))
 
 -- of a key that too few pairs have
 abbrev pub few_words : ℕ → ℕ → List ℕ → List ℕ
 few_words count least written =
-    if count == 0 then codes "is missing the key: " ++ written
-    else codes "wants at least " ++ (decimal least ++ (codes " of the key " ++ (written ++ (codes ", and has " ++ decimal count))))
+    if count == 0 then codes "is missing " ++ key_words (codes ":") written
+    else codes "wants at least " ++ (decimal least ++ (codes " of " ++ (key_words [] written ++ (codes ", and has " ++ decimal count))))
 
 -- what helps where an entry before the member that is missing took one that it need not have
 abbrev pub greedy_words : Bool → List ℕ
@@ -23,7 +28,7 @@ later_words true = codes " (a later entry has the same key, but each pair goes t
 later_words false = []
 
 abbrev pub many_words : ℕ → ℕ → Bool → List ℕ → List ℕ
-many_words count most later written = (codes "wants at most " ++ (decimal most ++ (codes " of the key " ++ (written ++ (codes ", and has " ++ decimal count))))) ++ later_words later
+many_words count most later written = (codes "wants at most " ++ (decimal most ++ (codes " of " ++ (key_words [] written ++ (codes ", and has " ++ decimal count))))) ++ later_words later
 
 -- with the text of the type
 abbrev pub said : Cause → List ℕ → List ℕ

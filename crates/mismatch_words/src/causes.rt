@@ -1,7 +1,7 @@
 //! What is wrong with what is at a place.
 
-ghost use Rattle.std.specs.Prelude.{◌≡◌, IfOk, string_bytes};
-ghost use Rattle.mismatch_words.specs.Causes.{few_words, greedy_words, later_words, many_words, missing_words, said};
+ghost use Rattle.std.specs.Prelude.{◌≡◌, ◌++◌, ◌∷◌, [], IfOk, codes, string_bytes};
+ghost use Rattle.mismatch_words.specs.Causes.{few_words, greedy_words, key_words, later_words, many_words, missing_words, said};
 
 use std::alloc::{AllocError, Global};
 
@@ -16,10 +16,10 @@ pub enum Cause {
     MemberTooMuch,
     /// It is the key of a pair that belongs to no entry of the map.
     PairStray,
-    /// The map has so many pairs with a key of the type, and more are wanted, at least so many.
+    /// The map has so many pairs with a key of the type, and more are wanted, at least so many. Where the type stands nowhere in the
+    /// text, as an argument in the place of a parameter, no text of it is given.
     KeyTooFew { count: u64, least: u64 },
-    /// The map has so many pairs with a key of the type, and fewer are wanted, at most so many. A later entry may have the same
-    /// key.
+    /// The same, where fewer are wanted, at most so many. A later entry may have the same key.
     KeyTooMany { count: u64, most: u64, later: bool },
     /// It is a byte string that does not hold one item.
     NoItem,
@@ -47,10 +47,22 @@ fn few_words(alloc: Global, count: u64, least: u64, written: &str) -> Result<Str
     ensures { IfOk result (λ words. string_bytes words ≡ few_words count least written.now) }
 {
     if count == 0 {
-        format!(in alloc; "is missing the key: {written}")
+        let key = key_words(alloc, ":", written)?;
+        format!(in alloc; "is missing {key}")
     } else {
-        format!(in alloc; "wants at least {least} of the key {written}, and has {count}")
+        let key = key_words(alloc, "", written)?;
+        format!(in alloc; "wants at least {least} of {key}, and has {count}")
     }
+}
+
+// The key, with this behind the word. Nothing is written where the key stands nowhere in the text.
+fn key_words(alloc: Global, colon: &str, written: &str) -> Result<String, AllocError>
+    ensures { IfOk result (λ words. string_bytes words ≡ key_words colon.now written.now) }
+{
+    if written.is_empty() {
+        return String::from_str(alloc, "a key");
+    }
+    format!(in alloc; "the key{colon} {written}")
 }
 
 fn missing_words(alloc: Global, greedy: bool, written: &str) -> Result<String, AllocError>
@@ -69,9 +81,8 @@ fn many_words(
 ) -> Result<String, AllocError>
     ensures { IfOk result (λ words. string_bytes words ≡ many_words count most later written.now) }
 {
-    let mut words = format!(in alloc;
-        "wants at most {most} of the key {written}, and has {count}"
-    )?;
+    let key = key_words(alloc, "", written)?;
+    let mut words = format!(in alloc; "wants at most {most} of {key}, and has {count}")?;
     words.push_str(later_words(later))?;
     Ok(words)
 }

@@ -21,7 +21,7 @@ pub struct Reason<'a> {
     pub rule: &'a str,
     /// What is wrong.
     pub cause: Cause,
-    /// The type, as it stands in the text.
+    /// The type, as it stands in the text; nothing where it stands nowhere there.
     pub written: &'a str,
 }
 
