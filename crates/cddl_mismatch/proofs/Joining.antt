@@ -1,19 +1,16 @@
 -- The lines of reasons, one by one.
-use Rattle.std.proofs.Common.{◌≡◌, ℕ, zero, suc, ◌+◌, List, [], ◌∷◌, ◌++◌, codes, map, take, Option, Some, None, IfNone, IfOk, IfSome, Result, Ok, Err, slice_get, sym, ap, subst, ◌∙◌, arith}
+use Rattle.std.proofs.Common.{◌≡◌, ℕ, zero, suc, ◌+◌, List, [], ◌∷◌, ◌++◌, take, Option, Some, None, IfNone, IfOk, IfSome, Result, Ok, Err, slice_get, sym, ap, subst, ◌∙◌, arith}
 use Rattle.std.specs.declared.alloc.AllocError.{AllocError}
 use Rattle.cbor_data.specs.Value.{Value}
 use Rattle.cddl_token.specs.declared.Token.{Token}
+use Rattle.table_nodes.specs.declared.table.Table.{Table}
 use Rattle.type_links.specs.declared.link.Link.{Link}
 use Rattle.cddl_sources.specs.declared.place.Place.{Place}
 use Rattle.cddl_sources.specs.declared.sources.Sources.{Sources}
-use Rattle.cddl_reasons.specs.Told.{holder_view}
 use Rattle.cddl_reasons.specs.declared.causes.Reason.{Reason}
 use Rattle.mismatch_words.specs.Lines.{with_line}
 use Rattle.mismatch_words.specs.Reasons.{line_text}
 use Rattle.mismatch_words.specs.declared.causes.Cause.{Cause}
-use Rattle.cddl_mismatch.specs.Causes.{told_cause}
-use Rattle.cddl_mismatch.specs.Lines.{IsLineAt}
-use Rattle.cddl_mismatch.specs.Places.{ArePlaceWords}
 use Rattle.cddl_mismatch.specs.Explained.{AreLines, IsPlaceOf, IsPlaced, IsToldOf, IsToldOfRoot, nowhere, of_root, one_more}
 
 abbrev value_or : {A : Type 0} → A → Option A → A
@@ -41,18 +38,14 @@ pub placed_by : (x : Sources) (chain ids : List Link) (r : Result (Option Place)
 placed_by x chain ids (Ok p) e some none = subst (λ (ms : List Link). IsPlaceOf x ms p) e (placed x chain p some none)
 placed_by x chain ids (Err f) e some none = tt
 
--- the line tells what is found at the place
-pub told_there : (text : List ℕ) (tokens : List Token) (file : List ℕ) (p : Place) (x : Value) (r : Reason) (found : List ℕ) (cause : Cause) (line : List ℕ) → ArePlaceWords (codes "$") x (map holder_view r.strings.items) r.place found → cause ≡ told_cause r.greedy r.cause → IsLineAt text tokens file p found cause line → IsToldOf text tokens file p x r line
-told_there text tokens file p x r found cause line words k h = (found, words, subst (λ c. IsLineAt text tokens file p found c line) k h)
+pub one_line_more : (text : List ℕ) (tokens : List Token) (file : List ℕ) (root : Option (List ℕ)) (table : Table) (sources : Sources) (x : Value) (rs : List Reason) (lines new : List (List ℕ)) (r : Reason) (p : Place) (line : List ℕ) → new ≡ with_line lines line → IsPlaced sources r (Some p) → IsToldOf text tokens file table p x r line → AreLines text tokens file root table sources x rs lines → AreLines text tokens file root table sources x (rs ++ r ∷ []) new
+one_line_more text tokens file root table sources x rs lines new r p line e placed told h = subst (λ ls. AreLines text tokens file root table sources x (rs ++ r ∷ []) ls) (sym e) (one_more h r p line placed told)
 
-pub one_line_more : (text : List ℕ) (tokens : List Token) (file : List ℕ) (root : Option (List ℕ)) (sources : Sources) (x : Value) (rs : List Reason) (lines new : List (List ℕ)) (r : Reason) (p : Place) (line : List ℕ) → new ≡ with_line lines line → IsPlaced sources r (Some p) → IsToldOf text tokens file p x r line → AreLines text tokens file root sources x rs lines → AreLines text tokens file root sources x (rs ++ r ∷ []) new
-one_line_more text tokens file root sources x rs lines new r p line e placed told h = subst (λ ls. AreLines text tokens file root sources x (rs ++ r ∷ []) ls) (sym e) (one_more h r p line placed told)
+pub root_line_more : (text : List ℕ) (tokens : List Token) (file : List ℕ) (root : Option (List ℕ)) (table : Table) (sources : Sources) (x : Value) (rs : List Reason) (lines new : List (List ℕ)) (r : Reason) (name line : List ℕ) → new ≡ with_line lines line → root ≡ Some name → IsPlaced sources r None → IsToldOfRoot name x r line → AreLines text tokens file root table sources x rs lines → AreLines text tokens file root table sources x (rs ++ r ∷ []) new
+root_line_more text tokens file root table sources x rs lines new r name line e is none told h = subst (λ ls. AreLines text tokens file root table sources x (rs ++ r ∷ []) ls) (sym e) (of_root h r name line is none told)
 
-pub root_line_more : (text : List ℕ) (tokens : List Token) (file : List ℕ) (root : Option (List ℕ)) (sources : Sources) (x : Value) (rs : List Reason) (lines new : List (List ℕ)) (r : Reason) (name line : List ℕ) → new ≡ with_line lines line → root ≡ Some name → IsPlaced sources r None → IsToldOfRoot name x r line → AreLines text tokens file root sources x rs lines → AreLines text tokens file root sources x (rs ++ r ∷ []) new
-root_line_more text tokens file root sources x rs lines new r name line e is none told h = subst (λ ls. AreLines text tokens file root sources x (rs ++ r ∷ []) ls) (sym e) (of_root h r name line is none told)
-
-pub no_line_more : (text : List ℕ) (tokens : List Token) (file : List ℕ) (root : Option (List ℕ)) (sources : Sources) (x : Value) (rs : List Reason) (lines : List (List ℕ)) (r : Reason) → root ≡ None → IsPlaced sources r None → AreLines text tokens file root sources x rs lines → AreLines text tokens file root sources x (rs ++ r ∷ []) lines
-no_line_more text tokens file root sources x rs lines r is none h = nowhere h r is none
+pub no_line_more : (text : List ℕ) (tokens : List Token) (file : List ℕ) (root : Option (List ℕ)) (table : Table) (sources : Sources) (x : Value) (rs : List Reason) (lines : List (List ℕ)) (r : Reason) → root ≡ None → IsPlaced sources r None → AreLines text tokens file root table sources x rs lines → AreLines text tokens file root table sources x (rs ++ r ∷ []) lines
+no_line_more text tokens file root table sources x rs lines r is none h = nowhere h r is none
 
 pub same_line : (file found : List ℕ) (line column : ℕ) (given rule : List ℕ) (cause : Cause) (shown written told : List ℕ) → told ≡ line_text file found line column given cause shown → given ≡ rule → shown ≡ written → told ≡ line_text file found line column rule cause written
 same_line file found line column given rule cause shown written told h e k = h ∙ (ap (λ r. line_text file found line column r cause shown) e ∙ ap (λ w. line_text file found line column rule cause w) k)

@@ -15,6 +15,7 @@ use Rattle.cddl_check.specs.Spec.{Checked}
 use Rattle.cddl_check.specs.Text.{AreTokensOf, IsWrongText}
 use Rattle.table_making.specs.Basis.{Sense}
 use Rattle.table_making.specs.Nodes.{IsNameOfType}
+use Rattle.table_nodes.specs.Language.{language_of}
 use Rattle.table_nodes.specs.declared.table.Table.{Table}
 use Rattle.type_links.specs.declared.link.Link.{Link}
 use Rattle.cddl_table.specs.Text.{IsTableOf}
@@ -28,7 +29,7 @@ use Rattle.cddl_reasons.specs.declared.causes.Reasons.{Reasons}
 use Rattle.mismatch_words.specs.Lines.{told_lines, with_line}
 use Rattle.mismatch_words.specs.Reasons.{root_line}
 use Rattle.cddl_mismatch.specs.Causes.{chain_of, names_key, told_cause}
-use Rattle.cddl_mismatch.specs.Keys.{told_place}
+use Rattle.cddl_mismatch.specs.Keys.{key_words, told_place}
 use Rattle.cddl_mismatch.specs.Lines.{IsLineAt}
 use Rattle.cddl_mismatch.specs.Places.{ArePlaceWords}
 use Rattle.cddl_mismatch.specs.declared.reasons.TheConstants.{MOST}
@@ -46,9 +47,10 @@ IsPlaced x r None = IsPlaceOf x (chain_of r) None
 IsPlaced x r (Some p) = (named : Place) × (holder : Option Place) × IsPlaceOf x (chain_of r) (Some named) × IsPlaceOf x r.links.items holder × (p ≡ told_place (names_key r.cause) named holder)
 
 module _ (text : List ℕ) (tokens : List Token) (file : List ℕ) where
-  -- The line tells the place and what is there, in byte strings too, where the type stands, and what is wrong.
-  abbrev pub IsToldOf : Place → Value → Reason → List ℕ → Type 0
-  IsToldOf p x r line = (found : List ℕ) × ArePlaceWords (codes "$") x (map holder_view r.strings.items) r.place found × IsLineAt text tokens file p found (told_cause r.greedy r.cause) line
+  -- The line tells the place and what is there, in byte strings too, where the type stands, and what is wrong; of a key that stands
+  -- nowhere its value, by the table.
+  abbrev pub IsToldOf : Table → Place → Value → Reason → List ℕ → Type 0
+  IsToldOf t p x r line = (found : List ℕ) × ArePlaceWords (codes "$") x (map holder_view r.strings.items) r.place found × IsLineAt text tokens file p found (told_cause r.greedy r.cause) (key_words (language_of t) r.cause) line
 
 -- The line tells the place and what is there, and this root.
 abbrev pub IsToldOfRoot : (root : List ℕ) → Value → Reason → List ℕ → Type 0
@@ -57,22 +59,22 @@ IsToldOfRoot root x r line = (found : List ℕ) × ArePlaceWords (codes "$") x (
 module _ (text : List ℕ) (tokens : List Token) (file : List ℕ) (root : Option (List ℕ)) where
   -- The lines of these reasons, in order: one for each, but for one that is there already. Where its types are of no rule of the text
   -- it tells the root, by the name that was asked for; the first rule is one of the text.
-  pub data AreLines (sources : Sources) (x : Value) : List Reason → List (List ℕ) → Type 0 where
-    no_reason : AreLines sources x [] []
-    one_more : {rs : List Reason} {lines : List (List ℕ)} → AreLines sources x rs lines → (r : Reason) (p : Place) (line : List ℕ) → IsPlaced sources r (Some p) → IsToldOf text tokens file p x r line → AreLines sources x (rs ++ r ∷ []) (with_line lines line)
-    of_root : {rs : List Reason} {lines : List (List ℕ)} → AreLines sources x rs lines → (r : Reason) (name line : List ℕ) → root ≡ Some name → IsPlaced sources r None → IsToldOfRoot name x r line → AreLines sources x (rs ++ r ∷ []) (with_line lines line)
-    nowhere : {rs : List Reason} {lines : List (List ℕ)} → AreLines sources x rs lines → (r : Reason) → root ≡ None → IsPlaced sources r None → AreLines sources x (rs ++ r ∷ []) lines
+  pub data AreLines (table : Table) (sources : Sources) (x : Value) : List Reason → List (List ℕ) → Type 0 where
+    no_reason : AreLines table sources x [] []
+    one_more : {rs : List Reason} {lines : List (List ℕ)} → AreLines table sources x rs lines → (r : Reason) (p : Place) (line : List ℕ) → IsPlaced sources r (Some p) → IsToldOf text tokens file table p x r line → AreLines table sources x (rs ++ r ∷ []) (with_line lines line)
+    of_root : {rs : List Reason} {lines : List (List ℕ)} → AreLines table sources x rs lines → (r : Reason) (name line : List ℕ) → root ≡ Some name → IsPlaced sources r None → IsToldOfRoot name x r line → AreLines table sources x (rs ++ r ∷ []) (with_line lines line)
+    nowhere : {rs : List Reason} {lines : List (List ℕ)} → AreLines table sources x rs lines → (r : Reason) → root ≡ None → IsPlaced sources r None → AreLines table sources x (rs ++ r ∷ []) lines
 
   -- the first lines, and how many more there are, with the reasons that have none
-  pub record AreTold (sources : Sources) (x : Value) (reasons : Reasons) (told : List ℕ) : Type 0 where
+  pub record AreTold (table : Table) (sources : Sources) (x : Value) (reasons : Reasons) (told : List ℕ) : Type 0 where
     pub lines : List (List ℕ)
-    pub are_lines : AreLines sources x reasons.list.items lines
+    pub are_lines : AreLines table sources x reasons.list.items lines
     pub is : told ≡ told_lines lines reasons.more
 
   -- By a table: of reasons why it says no, or nothing, where it says yes or the steps do not tell.
   pub data IsToldBy (table : Table) (sources : Sources) (x : Value) (steps : ℕ) (told : List ℕ) : Type 0 where
     no_reasons : HasNone table x steps → told ≡ [] → IsToldBy table sources x steps told
-    reasons : (rs : Reasons) → AreReasons table x steps MOST rs → AreTold sources x rs told → IsToldBy table sources x steps told
+    reasons : (rs : Reasons) → AreReasons table x steps MOST rs → AreTold table sources x rs told → IsToldBy table sources x steps told
 
   -- by the table of a specification, with where its types stand in the text
   pub record IsToldFrom (spec : Checked) (x : Value) (steps : ℕ) (told : List ℕ) : Type 0 where

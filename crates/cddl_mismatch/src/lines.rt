@@ -1,7 +1,7 @@
 //! The line of a reason whose type stands at a place of the text.
 
-ghost use Rattle.std.specs.Prelude.{IfOk, string_bytes};
-ghost use Rattle.cddl_mismatch.specs.Lines.{IsLineAt, IsPartOf};
+ghost use Rattle.std.specs.Prelude.{◌≡◌, IfOk, string_bytes};
+ghost use Rattle.cddl_mismatch.specs.Lines.{IsLineAt, IsPartOf, written_or};
 
 use cddl_sources::{Place, Span};
 use cddl_token::Token;
@@ -18,18 +18,20 @@ pub(crate) struct Source<'s> {
     pub(crate) root: Option<&'s str>,
 }
 
-// The line for what was found, where the type stands at this place.
+// The line for what was found, where the type stands at this place; with the other words where nothing of it is told.
 pub(crate) fn line_at(
     alloc: Global,
     source: Source<'_>,
     place: Place,
     found: &str,
     cause: Cause,
+    other: &str,
 ) -> Result<String, AllocError>
-    ensures { IfOk result (λ line. IsLineAt source.entry.text.now source.entry.tokens.now source.entry.file.now place found.now cause (string_bytes line)) }
+    ensures { IfOk result (λ line. IsLineAt source.entry.text.now source.entry.tokens.now source.entry.file.now place found.now cause other.now (string_bytes line)) }
 {
     let rule = part_of(alloc, source.text, place.name)?;
     let written = type_words(alloc, source.tokens, place.types.first, place.types.end)?;
+    let written = written_or(written.as_str(), other);
     let position = position_of(source.text, place.types.first);
     reason_line(
         alloc,
@@ -39,9 +41,16 @@ pub(crate) fn line_at(
             position,
             rule: rule.as_str(),
             cause,
-            written: written.as_str(),
+            written,
         },
     )
+}
+
+// These words, or the others where there are none.
+fn written_or<'w>(written: &'w str, other: &'w str) -> &'w str
+    ensures { result.now ≡ written_or written.now other.now }
+{
+    if written.is_empty() { other } else { written }
 }
 
 // What stands in a part of the text.

@@ -42,7 +42,7 @@ fn told_by(
     ensures { IfOk result (λ told. IsToldBy source.entry.text.now source.entry.tokens.now source.entry.file.now (option_map (λ r. r.now) source.entry.root) table.now sources.now item.now steps (string_bytes told)) }
 {
     match find_reasons(alloc, table, item, steps, MOST)? {
-        Some(reasons) => told_of(alloc, source, sources, item, &reasons),
+        Some(reasons) => told_of(alloc, source, table, sources, item, &reasons),
         None => Ok(String::new(alloc)),
     }
 }

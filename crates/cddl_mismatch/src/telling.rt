@@ -3,11 +3,12 @@
 ghost use Rattle.std.specs.Prelude.{◌≡◌, ◌<◌, ◌++◌, ◌∷◌, [], List, IfOk, None, Some, length, map, option_map, slice_get, string_bytes};
 ghost use Rattle.cddl_reasons.specs.declared.causes.Reason.{Reason as AnyReason};
 ghost use Rattle.cddl_sources.specs.declared.sources.Sources.{Sources as AllSources};
+ghost use Rattle.table_nodes.specs.declared.table.Table.{Table as AllTable};
 ghost use Rattle.cddl_mismatch.specs.Causes.{chain_of};
 ghost use Rattle.cddl_mismatch.specs.Explained.{AreLines, AreTold, IsPlaceOf, IsPlaced, IsToldOf, IsToldOfRoot};
 
 use crate::causes::{chain_of, told_cause};
-use crate::keys::told_place;
+use crate::keys::{key_words, told_place};
 use crate::lines::{Source, line_at};
 use crate::places::place_words;
 use cbor_item::Sound;
@@ -15,19 +16,21 @@ use cddl_reasons::{Reason, Reasons};
 use cddl_sources::{Place, Sources};
 use mismatch_words::{push_line, root_line, told_lines};
 use std::alloc::{AllocError, Global};
+use table_nodes::Table;
 use type_links::Link;
 
 // What is told of these reasons.
 pub(crate) fn told_of(
     alloc: Global,
     source: Source<'_>,
+    table: &Table,
     sources: &Sources,
     item: &Sound,
     reasons: &Reasons,
 ) -> Result<String, AllocError>
-    ensures { IfOk result (λ told. AreTold source.entry.text.now source.entry.tokens.now source.entry.file.now (option_map (λ r. r.now) source.entry.root) sources.now item.now reasons.now (string_bytes told)) }
+    ensures { IfOk result (λ told. AreTold source.entry.text.now source.entry.tokens.now source.entry.file.now (option_map (λ r. r.now) source.entry.root) table.now sources.now item.now reasons.now (string_bytes told)) }
 {
-    let lines = lines_of(alloc, source, sources, item, &reasons.list)?;
+    let lines = lines_of(alloc, source, table, sources, item, &reasons.list)?;
     told_lines(alloc, &lines, reasons.more)
 }
 
@@ -35,17 +38,19 @@ pub(crate) fn told_of(
 fn lines_of(
     alloc: Global,
     source: Source<'_>,
+    table: &Table,
     sources: &Sources,
     item: &Sound,
     reasons: &[Reason],
 ) -> Result<Vec<String>, AllocError>
-    ensures { IfOk result (λ lines. AreLines source.entry.text.now source.entry.tokens.now source.entry.file.now (option_map (λ r. r.now) source.entry.root) sources.now item.now reasons.now (map string_bytes lines.items)) }
+    ensures { IfOk result (λ lines. AreLines source.entry.text.now source.entry.tokens.now source.entry.file.now (option_map (λ r. r.now) source.entry.root) table.now sources.now item.now reasons.now (map string_bytes lines.items)) }
 {
     let mut lines = Vec::new(alloc);
     'reason: for k in 0..reasons.len() {
         add_line(
             alloc,
             source,
+            table,
             sources,
             item,
             reason_at(reasons, k),
@@ -70,16 +75,17 @@ fn reason_at(reasons: &[Reason], index: usize) -> &Reason
 fn add_line(
     alloc: Global,
     source: Source<'_>,
+    table: &Table,
     sources: &Sources,
     item: &Sound,
     reason: &Reason,
     lines: &mut Vec<String>,
 ) -> Result<(), AllocError>
-    ensures { IfOk result (λ _. (before : List AnyReason) → AreLines source.entry.text.now source.entry.tokens.now source.entry.file.now (option_map (λ r. r.now) source.entry.root) sources.now item.now before (map string_bytes lines.old.items) → AreLines source.entry.text.now source.entry.tokens.now source.entry.file.now (option_map (λ r. r.now) source.entry.root) sources.now item.now (before ++ reason.now ∷ []) (map string_bytes lines.new.items)) }
+    ensures { IfOk result (λ _. (before : List AnyReason) → AreLines source.entry.text.now source.entry.tokens.now source.entry.file.now (option_map (λ r. r.now) source.entry.root) table.now sources.now item.now before (map string_bytes lines.old.items) → AreLines source.entry.text.now source.entry.tokens.now source.entry.file.now (option_map (λ r. r.now) source.entry.root) table.now sources.now item.now (before ++ reason.now ∷ []) (map string_bytes lines.new.items)) }
 {
     match place_of(alloc, sources, reason)? {
         Some(place) => {
-            let line = line_of(alloc, source, place, item, reason)?;
+            let line = line_of(alloc, source, table, place, item, reason)?;
             push_line(lines, line)?;
             return Ok(());
         }
@@ -98,7 +104,7 @@ fn add_root_line(
     reason: &Reason,
     lines: &mut Vec<String>,
 ) -> Result<(), AllocError>
-    ensures { IfOk result (λ _. (sources : AllSources) (before : List AnyReason) → IsPlaced sources reason.now None → AreLines source.entry.text.now source.entry.tokens.now source.entry.file.now (option_map (λ r. r.now) source.entry.root) sources item.now before (map string_bytes lines.old.items) → AreLines source.entry.text.now source.entry.tokens.now source.entry.file.now (option_map (λ r. r.now) source.entry.root) sources item.now (before ++ reason.now ∷ []) (map string_bytes lines.new.items)) }
+    ensures { IfOk result (λ _. (table : AllTable) (sources : AllSources) (before : List AnyReason) → IsPlaced sources reason.now None → AreLines source.entry.text.now source.entry.tokens.now source.entry.file.now (option_map (λ r. r.now) source.entry.root) table sources item.now before (map string_bytes lines.old.items) → AreLines source.entry.text.now source.entry.tokens.now source.entry.file.now (option_map (λ r. r.now) source.entry.root) table sources item.now (before ++ reason.now ∷ []) (map string_bytes lines.new.items)) }
 {
     match source.root {
         Some(root) => {
@@ -144,19 +150,22 @@ fn place_by(alloc: Global, sources: &Sources, links: &[Link]) -> Result<Option<P
 fn line_of(
     alloc: Global,
     source: Source<'_>,
+    table: &Table,
     place: Place,
     item: &Sound,
     reason: &Reason,
 ) -> Result<String, AllocError>
-    ensures { IfOk result (λ line. IsToldOf source.entry.text.now source.entry.tokens.now source.entry.file.now place item.now reason.now (string_bytes line)) }
+    ensures { IfOk result (λ line. IsToldOf source.entry.text.now source.entry.tokens.now source.entry.file.now table.now place item.now reason.now (string_bytes line)) }
 {
     let found = place_words(alloc, item.item(), &reason.strings, reason.place)?;
+    let key = key_words(alloc, table, reason.cause)?;
     line_at(
         alloc,
         source,
         place,
         found.as_str(),
         told_cause(reason.greedy, reason.cause),
+        key.as_str(),
     )
 }
 

@@ -3,4 +3,4 @@ use Rattle.cddl_mismatch.specs.Explained.{AreLines}
 use Rattle.cddl_mismatch.proofs.telling.lines_of.Given as goal
 
 abbrev pub invariant-reason : goal.invariant-reason
-invariant-reason l = AreLines l.source.text.now l.source.tokens.now l.source.file.now (option_map (λ r. r.now) l.source.root) l.sources l.item (take l.k l.reasons) (map string_bytes l.lines.items)
+invariant-reason l = AreLines l.source.text.now l.source.tokens.now l.source.file.now (option_map (λ r. r.now) l.source.root) l.table l.sources l.item (take l.k l.reasons) (map string_bytes l.lines.items)
