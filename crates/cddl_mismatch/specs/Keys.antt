@@ -14,9 +14,13 @@ use Rattle.mismatch_words.specs.Values.{value_words}
 abbrev pub is_same : Span → Span → Bool
 is_same s t = nat_eq s.first t.first && nat_eq s.end t.end
 
+-- no more than where it begins
+abbrev pub start_of : Span → Span
+start_of s = record { first = s.first; end = s.first }
+
 -- where it begins, and nothing of what stands there
 abbrev pub beginning : Place → Place
-beginning p = record { name = p.name; types = record { first = p.types.first; end = p.types.first } }
+beginning p = record { name = p.name; types = start_of p.types; written = start_of p.types }
 
 -- of the place to which the key's link leads, and of that to which those before it lead
 abbrev pub told_place : (names_key : Bool) → (named : Place) → (holder : Option Place) → Place

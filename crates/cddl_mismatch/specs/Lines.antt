@@ -13,16 +13,16 @@ use Rattle.mismatch_words.specs.declared.causes.Cause.{Cause}
 abbrev pub IsPartOf : List ℕ → Span → List ℕ → Type 0
 IsPartOf text s words = s.first ≤ s.end → s.end ≤ length text → words ≡ utf8_lossy (slice_range text s.first s.end)
 
--- the tokens of the type, or these words where there are none
+-- the tokens, or these words where there are none
 abbrev pub written_or : List ℕ → List ℕ → List ℕ
 written_or [] other = other
 written_or (b ∷ bs) other = b ∷ bs
 
--- The line tells the name of the rule, the line and the column where the type begins, and the tokens of the type, or these words.
+-- The line tells the name of the rule, the line and the column where the type begins, and the tokens by which it is told, or these words.
 pub record IsLineAt (text : List ℕ) (tokens : List Token) (file : List ℕ) (p : Place) (found : List ℕ) (cause : Cause) (other told : List ℕ) : Type 0 where
   pub rule : List ℕ
   pub is_rule : IsPartOf text p.name rule
   pub line : ℕ
   pub column : ℕ
   pub at : IsAt (take p.types.first text) line column
-  pub is : told ≡ line_text file found line column rule cause (written_or (type_words p.types.first p.types.first p.types.end tokens) other)
+  pub is : told ≡ line_text file found line column rule cause (written_or (type_words p.written.first p.written.first p.written.end tokens) other)

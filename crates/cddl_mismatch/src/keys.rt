@@ -5,7 +5,7 @@ ghost use Rattle.item_nodes.specs.View.{view};
 ghost use Rattle.table_nodes.specs.Language.{language_of};
 ghost use Rattle.table_nodes.specs.Nodes.{type_view};
 ghost use Rattle.cddl_mismatch.specs.Causes.{names_key};
-ghost use Rattle.cddl_mismatch.specs.Keys.{beginning, is_same, key_words, notation_of, told_place, value_asked};
+ghost use Rattle.cddl_mismatch.specs.Keys.{beginning, is_same, key_words, notation_of, start_of, told_place, value_asked};
 
 use cbor_item::Item;
 use cddl_reasons::Cause;
@@ -52,12 +52,20 @@ fn is_same(one: Span, other: Span) -> bool
 fn beginning(place: Place) -> Place
     ensures { result ≡ beginning place }
 {
+    let start = start_of(place.types);
     Place {
         name: place.name,
-        types: Span {
-            first: place.types.first,
-            end: place.types.first,
-        },
+        types: start,
+        written: start,
+    }
+}
+
+fn start_of(span: Span) -> Span
+    ensures { result ≡ start_of span }
+{
+    Span {
+        first: span.first,
+        end: span.first,
     }
 }
 

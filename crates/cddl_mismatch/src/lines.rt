@@ -30,7 +30,7 @@ pub(crate) fn line_at(
     ensures { IfOk result (λ line. IsLineAt source.entry.text.now source.entry.tokens.now source.entry.file.now place found.now cause other.now (string_bytes line)) }
 {
     let rule = part_of(alloc, source.text, place.name)?;
-    let written = type_words(alloc, source.tokens, place.types.first, place.types.end)?;
+    let written = type_words(alloc, source.tokens, place.written.first, place.written.end)?;
     let written = written_or(written.as_str(), other);
     let position = position_of(source.text, place.types.first);
     reason_line(

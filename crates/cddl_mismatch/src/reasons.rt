@@ -35,7 +35,7 @@ fn told_by(
     alloc: Global,
     source: Source<'_>,
     table: &Table,
-    sources: &Sources,
+    sources: &Sources<'_>,
     item: &Sound,
     steps: u64,
 ) -> Result<String, AllocError>

@@ -24,7 +24,7 @@ pub(crate) fn told_of(
     alloc: Global,
     source: Source<'_>,
     table: &Table,
-    sources: &Sources,
+    sources: &Sources<'_>,
     item: &Sound,
     reasons: &Reasons,
 ) -> Result<String, AllocError>
@@ -39,7 +39,7 @@ fn lines_of(
     alloc: Global,
     source: Source<'_>,
     table: &Table,
-    sources: &Sources,
+    sources: &Sources<'_>,
     item: &Sound,
     reasons: &[Reason],
 ) -> Result<Vec<String>, AllocError>
@@ -76,7 +76,7 @@ fn add_line(
     alloc: Global,
     source: Source<'_>,
     table: &Table,
-    sources: &Sources,
+    sources: &Sources<'_>,
     item: &Sound,
     reason: &Reason,
     lines: &mut Vec<String>,
@@ -117,7 +117,11 @@ fn add_root_line(
 }
 
 // Where the last type of a reason stands, or the key that it names.
-fn place_of(alloc: Global, sources: &Sources, reason: &Reason) -> Result<Option<Place>, AllocError>
+fn place_of(
+    alloc: Global,
+    sources: &Sources<'_>,
+    reason: &Reason,
+) -> Result<Option<Place>, AllocError>
     ensures { IfOk result (λ place. IsPlaced sources.now reason.now place) }
 {
     let Some(named) = named_place(alloc, sources, reason)? else {
@@ -130,7 +134,7 @@ fn place_of(alloc: Global, sources: &Sources, reason: &Reason) -> Result<Option<
 // Where what the links of a reason and its cause lead to stands.
 fn named_place(
     alloc: Global,
-    sources: &Sources,
+    sources: &Sources<'_>,
     reason: &Reason,
 ) -> Result<Option<Place>, AllocError>
     ensures { IfOk result (λ place. IsPlaceOf sources.now (chain_of reason.now) place) }
@@ -140,7 +144,11 @@ fn named_place(
 }
 
 // Where what these links lead to stands.
-fn place_by(alloc: Global, sources: &Sources, links: &[Link]) -> Result<Option<Place>, AllocError>
+fn place_by(
+    alloc: Global,
+    sources: &Sources<'_>,
+    links: &[Link],
+) -> Result<Option<Place>, AllocError>
     ensures { IfOk result (λ place. IsPlaceOf sources.now links.now place) }
 {
     sources.place(alloc, links)

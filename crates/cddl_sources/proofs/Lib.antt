@@ -4,6 +4,9 @@ mod Rules
 mod Ending
 mod Listing
 mod Growing
+mod Closing
+mod FilledPieces
+mod LastInstance
 mod Copying
 mod Reading
 mod Placing

@@ -7,6 +7,7 @@ use Rattle.cddl_token.specs.declared.Token.{Token}
 use Rattle.tree_nodes.specs.Syntax.Syntax as S
 use Rattle.tree_nodes.specs.declared.tree.Leaf.{Leaf}
 use Rattle.check_terms.specs.Table.{Table}
+use Rattle.cddl_sources.specs.Instances.{all_as_written}
 use Rattle.cddl_sources.specs.Origins.{AreRead, ArePieces, IsPieceAt, Stands}
 use Rattle.cddl_sources.specs.Pieces.{Piece, in_rule, placed, rule_by_rule}
 use Rattle.cddl_sources.specs.Walk.{view_found}
@@ -49,10 +50,10 @@ in_rules (x ∷ rs) i zero k r p e g h =
     (subst (λ (n : ℕ). Contains (placed i (in_rule x)) (n, p)) is_first (in_map (λ (q : Piece). (i, q)) (in_rule x) p (subst (λ (y : S.Rule). Contains (in_rule y) p) (sym is) h)))
 in_rules (x ∷ rs) i (suc j) k r p e g h = Contains-append_right (placed i (in_rule x)) (rule_by_rule (i + 1) rs) (k, p) (in_rules rs (i + 1) j k r p (omega arith) g h)
 
-pub pieces_stand : (t : Table) (read : Leaf → Token) (rs : List S.Rule) (fs : List Found) (xs : List PieceAt) → map (view_found read) fs ≡ rule_by_rule 0 rs → AreRead t read fs xs → ArePieces t rs xs
+pub pieces_stand : (t : Table) (read : Leaf → Token) (rs : List S.Rule) (fs : List Found) (xs : List PieceAt) → map (view_found read) fs ≡ rule_by_rule 0 rs → AreRead t read fs xs → ArePieces all_as_written t rs xs
 pieces_stand t read rs fs xs e are = record { each = each; all = all }
   where
-    each : (a : PieceAt) → Contains xs a → Stands t rs a
+    each : (a : PieceAt) → Contains xs a → Stands all_as_written t rs a
     each a c =
         let r = are.each a c in
         let f = r.0 in

@@ -20,42 +20,24 @@ use Rattle.check_terms.specs.declared.row.Row.{Row}
 use Rattle.check_terms.specs.Table.{Grows, Holds, part, Table}
 use Rattle.check_terms.specs.Trees.{IsEntry, IsTerm, term_tree}
 use Rattle.table_making.specs.declared.origin.TypeOrigin.{TypeOrigin}
-use Rattle.cddl_sources.specs.Origins.{AreRead, IsKeyOf, IsNumberOf, IsOriginOf, IsRead, MayBeOf, in_its_place, is_of, may_be_group, no_type, of_type, of_value, of_word}
-use Rattle.cddl_sources.specs.Pieces.{Piece, a_key, a_member, a_type, a_value, a_word, an_entry}
+use Rattle.cddl_sources.specs.Instances.{as_written}
+use Rattle.cddl_sources.specs.Origins.{AreRead, IsKeyOf, IsRead, MayBeOf}
+use Rattle.cddl_sources.specs.Pieces.{Piece}
 use Rattle.cddl_sources.specs.Sources.{AreRules, IsRuleAt}
+use Rattle.cddl_sources.specs.Walk.{view_found}
 use Rattle.cddl_sources.specs.declared.node.Found.{Found}
 use Rattle.cddl_sources.specs.declared.piece.PieceAt.{PieceAt}
 use Rattle.cddl_sources.specs.declared.sources.RuleAt.{RuleAt}
-use Rattle.cddl_sources.proofs.Growing.{kept}
-
-pub origin_kept : (old new : Table) (p : Piece) (o : TypeOrigin) → Grows old new → IsOriginOf old p o → IsOriginOf new p o
-origin_kept old new p o g (of_type h) = of_type (kept g h)
-origin_kept old new p o g (of_word {w = w} {k = k} e) = of_word (g.texts k _ e)
-origin_kept old new p o g (of_value h) = of_value (kept g h)
+use Rattle.cddl_sources.proofs.Closing.{key_as, may_as, piece_as}
 
 pub may_kept : (old new : Table) (p : Piece) (o : Option TypeOrigin) → Grows old new → MayBeOf old p o → MayBeOf new p o
-may_kept old new p o g (is_of h) = is_of (origin_kept old new p _ g h)
-may_kept old new p o g no_type = no_type
-may_kept old new p o g may_be_group = may_be_group
-may_kept old new p o g in_its_place = in_its_place
+may_kept old new p o g h = may_as as_written as_written (λ t. refl) old new g p o h
 
 pub key_kept : (old new : Table) (p : Piece) (o : Option TypeOrigin) → Grows old new → IsKeyOf old p o → IsKeyOf new p o
-key_kept old new (a_key a k) o g h = may_kept old new k o g h
-key_kept old new (a_value a k x) o g h = may_kept old new k o g h
-key_kept old new (a_type x) o g h = h
-key_kept old new (a_word w) o g h = h
-key_kept old new (a_member a x) o g h = h
-key_kept old new (an_entry a k i e) o g h = h
-
-pub name_kept : (old new : Table) (y : Option Text) (o : Option ℕ) → Grows old new → IsNumberOf old y o → IsNumberOf new y o
-name_kept old new None o g h = h
-name_kept old new (Some y) o g h = (h.0, h.1, g.texts h.0 y h.2)
+key_kept old new p o g h = key_as as_written as_written (λ t. refl) old new g p o h
 
 read_kept : (old new : Table) (read : Leaf → Token) (f : Found) (a : PieceAt) → Grows old new → IsRead old read f a → IsRead new read f a
-read_kept old new read f a g h = record {
-  rule = h.rule;
-  is = record { origin = may_kept old new _ a.origin g h.is.origin; key = key_kept old new _ a.key g h.is.key; around = h.is.around; entry = h.is.entry; name = name_kept old new _ a.name g h.is.name; span = h.is.span };
-}
+read_kept old new read f a g h = record { rule = h.rule; is = piece_as as_written as_written (λ t. refl) old new g (view_found read f).1 a h.is }
 
 pub none_read : (t : Table) (read : Leaf → Token) → AreRead t read [] []
 none_read t read = record { each = λ a c. absurd (none_in a c); all = λ f c. absurd (none_in f c) }

@@ -9,9 +9,9 @@ use Rattle.graphs.specs.declared.implications.Implication.{Implication}
 use Rattle.cddl_sources.specs.States.{AreSpliced, AreSteps, IsBetween, IsFlagged, IsInBody, IsSplicedIn, IsStep, IsInMap, named_in_group, named_in_map, step_in_group, step_in_map, in_its_group, in_its_brackets}
 use Rattle.cddl_sources.proofs.Stepping.{below, get_there}
 use Rattle.cddl_sources.specs.declared.piece.PieceAt.{PieceAt}
-use Rattle.cddl_sources.specs.declared.sources.Sources.{Sources}
+use Rattle.cddl_sources.specs.declared.sources.TypesInText.{TypesInText}
 
-module _ (x : Sources) (map : PieceAt) (steps : List Implication) (are : AreSteps x map steps) where
+module _ (x : TypesInText) (map : PieceAt) (steps : List Implication) (are : AreSteps x map steps) where
   one_step : (a : PieceAt) (i : Implication) → IsStep x map a i → i.then < x.names → ((p : ℕ) → i.first ≡ Some p → IsSplicedIn x map p) → IsSplicedIn x map i.then
   one_step a i (step_in_map m b) known rest = named_in_map known m b
   one_step a i (step_in_group {m = m} h b) known rest = named_in_group known h b (rest m refl)
@@ -32,7 +32,7 @@ module _ (x : Sources) (map : PieceAt) (steps : List Implication) (are : AreStep
   are_spliced flags h = record { each = λ n. (λ e. from_steps ((h.each n).0 e), λ g. (h.each n).1 (in_steps g)) }
 
 -- a value, by the flag of the rule that it is in
-pub by_flag : (x : Sources) (map a : PieceAt) (flags : List Bool) → AreSpliced x map flags → (b : Bool) → (IsBetween map a → ⊥) → IsTrue b ↔ IsFlagged x flags a → IsTrue b ↔ IsInMap x map a
+pub by_flag : (x : TypesInText) (map a : PieceAt) (flags : List Bool) → AreSpliced x map flags → (b : Bool) → (IsBetween map a → ⊥) → IsTrue b ↔ IsFlagged x flags a → IsTrue b ↔ IsInMap x map a
 by_flag x map a flags are b none e = (λ t. let f = e.0 t in in_its_group f.1 ((are.each f.0).0 f.2), back)
   where
     back : IsInMap x map a → IsTrue b
@@ -40,7 +40,7 @@ by_flag x map a flags are b none e = (λ t. let f = e.0 t in in_its_group f.1 ((
     back (in_its_group {n = n} h g) = e.1 (n, h, (are.each n).1 g)
 
 -- nothing follows from a piece elsewhere
-pub no_step : (x : Sources) (map a : PieceAt) (i : Implication) → (IsBetween map a → ⊥) → ((n : ℕ) → IsInBody x n a → ⊥) → IsStep x map a i → ⊥
+pub no_step : (x : TypesInText) (map a : PieceAt) (i : Implication) → (IsBetween map a → ⊥) → ((n : ℕ) → IsInBody x n a → ⊥) → IsStep x map a i → ⊥
 no_step x map a i none other (step_in_map m b) = none b
 no_step x map a i none other (step_in_group {m = m} h b) = other m b
 
@@ -50,14 +50,14 @@ not_true false e t = cc
 
 -- what follows from the first pieces
 
-pub record AreStepsTo (x : Sources) (map : PieceAt) (steps : List Implication) (k : ℕ) : Type 0 where
+pub record AreStepsTo (x : TypesInText) (map : PieceAt) (steps : List Implication) (k : ℕ) : Type 0 where
   pub each : (i : Implication) → Contains steps i → (a : PieceAt) × IsStep x map a i
   pub all : (j : ℕ) (a : PieceAt) (i : Implication) → j < k → slice_get x.pieces.items j ≡ Some a → IsStep x map a i → Contains steps i
 
-pub no_steps : (x : Sources) (map : PieceAt) → AreStepsTo x map [] 0
+pub no_steps : (x : TypesInText) (map : PieceAt) → AreStepsTo x map [] 0
 no_steps x map = record { each = λ i c. absurd (none_in i c); all = λ j a i l. absurd (omega (arith, l)) }
 
-pub next_steps : (x : Sources) (map : PieceAt) (steps next : List Implication) (k : ℕ) (a : PieceAt) (o : Option Implication) → slice_get x.pieces.items k ≡ Some a → IfSome o (λ i. Contains x.pieces.items a → IsStep x map a i) → ((i : Implication) → IsStep x map a i → o ≡ Some i) → next ≡ steps ++ option_to_list o → AreStepsTo x map steps k → AreStepsTo x map next (k + 1)
+pub next_steps : (x : TypesInText) (map : PieceAt) (steps next : List Implication) (k : ℕ) (a : PieceAt) (o : Option Implication) → slice_get x.pieces.items k ≡ Some a → IfSome o (λ i. Contains x.pieces.items a → IsStep x map a i) → ((i : Implication) → IsStep x map a i → o ≡ Some i) → next ≡ steps ++ option_to_list o → AreStepsTo x map steps k → AreStepsTo x map next (k + 1)
 next_steps x map steps next k a o there some all e h = subst (λ (is : List Implication). AreStepsTo x map is (k + 1)) (sym e) (record { each = each o some; all = every })
   where
     each : (o : Option Implication) → IfSome o (λ i. Contains x.pieces.items a → IsStep x map a i) → (i : Implication) → Contains (steps ++ option_to_list o) i → (b : PieceAt) × IsStep x map b i
@@ -73,11 +73,11 @@ next_steps x map steps next k a o there some all e h = subst (λ (is : List Impl
               subst (λ (p : Option Implication). Contains (steps ++ option_to_list p) i) (sym (all i (subst (λ (q : PieceAt). IsStep x map q i) (sym same) g))) (Contains-push steps i)
         ]
 
-member_contained : (x : Sources) (map a : PieceAt) (i : Implication) → IsStep x map a i → Contains x.pieces.items a
+member_contained : (x : TypesInText) (map a : PieceAt) (i : Implication) → IsStep x map a i → Contains x.pieces.items a
 member_contained x map a i (step_in_map m b) = m.contained
 member_contained x map a i (step_in_group m b) = m.contained
 
-pub all_steps : (x : Sources) (map : PieceAt) (steps : List Implication) (k : ℕ) → length x.pieces.items ≤ k → AreStepsTo x map steps k → AreSteps x map steps
+pub all_steps : (x : TypesInText) (map : PieceAt) (steps : List Implication) (k : ℕ) → length x.pieces.items ≤ k → AreStepsTo x map steps k → AreSteps x map steps
 all_steps x map steps k le h = record {
   each = h.each;
   all = λ a i g.
@@ -86,5 +86,5 @@ all_steps x map steps k le h = record {
       h.all w.0 a i (omega (arith, l, le)) w.1 g;
 }
 
-pub next_at : (x : Sources) (map : PieceAt) (steps next : List Implication) (xs : List PieceAt) (k : ℕ) (d : PieceAt) (o : Option Implication) → ((i : Implication) → IsStep x map (get_or xs k d) i → o ≡ Some i) → IfSome o (λ i. Contains x.pieces.items (get_or xs k d) → IsStep x map (get_or xs k d) i) → xs ≡ x.pieces.items → k < length xs → next ≡ steps ++ option_to_list o → AreStepsTo x map steps k → AreStepsTo x map next (k + 1)
+pub next_at : (x : TypesInText) (map : PieceAt) (steps next : List Implication) (xs : List PieceAt) (k : ℕ) (d : PieceAt) (o : Option Implication) → ((i : Implication) → IsStep x map (get_or xs k d) i → o ≡ Some i) → IfSome o (λ i. Contains x.pieces.items (get_or xs k d) → IsStep x map (get_or xs k d) i) → xs ≡ x.pieces.items → k < length xs → next ≡ steps ++ option_to_list o → AreStepsTo x map steps k → AreStepsTo x map next (k + 1)
 next_at x map steps next xs k d o all some e l = next_steps x map steps next k (get_or xs k d) o (subst (λ (ys : List PieceAt). slice_get ys k ≡ Some (get_or xs k d)) e (get_there xs k d l)) some all

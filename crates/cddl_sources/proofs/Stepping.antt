@@ -13,9 +13,9 @@ use Rattle.cddl_sources.specs.States.{ArePairIn, ArePassed, HasNoRule, HasNumber
 use Rattle.cddl_sources.specs.declared.piece.PieceAt.{PieceAt}
 use Rattle.cddl_sources.specs.declared.place.State.{State}
 use Rattle.cddl_sources.specs.declared.sources.RuleAt.{RuleAt}
-use Rattle.cddl_sources.specs.declared.sources.Sources.{Sources}
+use Rattle.cddl_sources.specs.declared.sources.TypesInText.{TypesInText}
 
-module _ (x : Sources) (id : Link) where
+module _ (x : TypesInText) (id : Link) where
   pub begun : (ids : List Link) (st : State) → IsStarted x id st → IsStateAfter x (ids ++ id ∷ []) st
   begun ids st h = record {
     before = ids;
@@ -95,68 +95,88 @@ module _ (x : Sources) (id : Link) where
   found_after st f k step ids h = λ rest to l. subst (λ (ms : List Link). LeadsIn x st.number None ms to) (sym (append_assoc ids (id ∷ []) rest)) (h (id ∷ rest) to (step rest to l))
 
 -- what is found last leads from what was found by the type that is held back
-pub last_after : (x : Sources) (st : State) (to : Option PieceAt) → LeadsIn x st.number st.found (with_held st.held []) to → (ids : List Link) → IsFoundAfter x st ids → LeadsIn x st.number None ids to
+pub last_after : (x : TypesInText) (st : State) (to : Option PieceAt) → LeadsIn x st.number st.found (with_held st.held []) to → (ids : List Link) → IsFoundAfter x st ids → LeadsIn x st.number None ids to
 last_after x st to l ids h = subst (λ (ms : List Link). LeadsIn x st.number None ms to) (append-nil ids) (h [] to l)
 
-from_rule : (x : Sources) (n : ℕ) (from : Option PieceAt) (a : PieceAt) → IsFrom x n from a → IfSome from (λ b. IsRuleIn x b.rule) → IsRuleIn x a.rule
+from_rule : (x : TypesInText) (n : ℕ) (from : Option PieceAt) (a : PieceAt) → IsFrom x n from a → IfSome from (λ b. IsRuleIn x b.rule) → IsRuleIn x a.rule
 from_rule x n None a h g = (h.at, h.there)
 from_rule x n (Some o) a h g = (g.0, ap (slice_get x.rules.items) h.0 ∙ g.1)
 
-map_rule : (x : Sources) (n : ℕ) (from : Option PieceAt) (a : PieceAt) → IsInMapFrom x n from a → IfSome from (λ b. IsRuleIn x b.rule) → IsRuleIn x a.rule
+map_rule : (x : TypesInText) (n : ℕ) (from : Option PieceAt) (a : PieceAt) → IsInMapFrom x n from a → IfSome from (λ b. IsRuleIn x b.rule) → IsRuleIn x a.rule
 map_rule x n None a h g = (h.at, h.there)
 map_rule x n (Some o) a (in_its_brackets h) g = (g.0, ap (slice_get x.rules.items) h.0 ∙ g.1)
 map_rule x n (Some o) a (in_its_group h s) g = (h.1.at, h.1.there)
 
-counted_rule : (x : Sources) (n own i : ℕ) → own < count_in n (slice_get x.rules.items i) → IsRuleIn x i
+counted_rule : (x : TypesInText) (n own i : ℕ) → own < count_in n (slice_get x.rules.items i) → IsRuleIn x i
 counted_rule x n own i h = by (slice_get x.rules.items i) refl h
   where
     by : (o : Option RuleAt) → slice_get x.rules.items i ≡ o → own < count_in n o → IsRuleIn x i
     by None e l = absurd (omega (arith, l))
     by (Some at) e l = (at, e)
 
-entry_rule : (x : Sources) {from : Option PieceAt} {k i : ℕ} {a : PieceAt} → IsEntryOf x from k i a → IfSome from (λ b. IsRuleIn x b.rule) → IsRuleIn x a.rule
+entry_rule : (x : TypesInText) {from : Option PieceAt} {k i : ℕ} {a : PieceAt} → IsEntryOf x from k i a → IfSome from (λ b. IsRuleIn x b.rule) → IsRuleIn x a.rule
 entry_rule x (within h) g = (g.0, ap (slice_get x.rules.items) h.rule ∙ g.1)
 entry_rule x {a = a} (named h) g = counted_rule x h.name h.own a.rule h.is_alternative.less
 
-pair_rule : (x : Sources) (n : ℕ) {from : Option PieceAt} {first second : Link} {a : PieceAt} → ArePairIn x n from first second a → IfSome from (λ b. IsRuleIn x b.rule) → IsRuleIn x a.rule
+pair_rule : (x : TypesInText) (n : ℕ) {from : Option PieceAt} {first second : Link} {a : PieceAt} → ArePairIn x n from first second a → IfSome from (λ b. IsRuleIn x b.rule) → IsRuleIn x a.rule
 pair_rule x n (of_value v) g = map_rule x n _ _ v.inside g
 pair_rule x n (of_entry e) g = entry_rule x e g
 
-one_rule : (x : Sources) (n : ℕ) {from : Option PieceAt} {m : Link} {a : PieceAt} → IsOneIn x n from m a → IfSome from (λ b. IsRuleIn x b.rule) → IsRuleIn x a.rule
+one_rule : (x : TypesInText) (n : ℕ) {from : Option PieceAt} {m : Link} {a : PieceAt} → IsOneIn x n from m a → IfSome from (λ b. IsRuleIn x b.rule) → IsRuleIn x a.rule
 one_rule x n (of_type t) g = from_rule x n _ _ t.inside g
 one_rule x n (of_key k) g = map_rule x n _ _ k.inside g
 
 -- what was found is in a rule
-found_from : (x : Sources) (n : ℕ) {from to : Option PieceAt} {ms : List Link} → LeadsIn x n from ms to → IfSome from (λ a. IsRuleIn x a.rule) → IfSome to (λ a. IsRuleIn x a.rule)
+found_from : (x : TypesInText) (n : ℕ) {from to : Option PieceAt} {ms : List Link} → LeadsIn x n from ms to → IfSome from (λ a. IsRuleIn x a.rule) → IfSome to (λ a. IsRuleIn x a.rule)
 found_from x n arrives h = h
 found_from x n (to_pair v l) h = found_from x n l (pair_rule x n v h)
 found_from x n (to_one none t l) h = found_from x n l (one_rule x n t h)
 found_from x n (passes none t l) h = found_from x n l h
 
-pub found_there : (x : Sources) (n : ℕ) (ids : List Link) (o : Option PieceAt) → LeadsIn x n None ids o → IfSome o (λ a. IsRuleIn x a.rule)
+pub found_there : (x : TypesInText) (n : ℕ) (ids : List Link) (o : Option PieceAt) → LeadsIn x n None ids o → IfSome o (λ a. IsRuleIn x a.rule)
 found_there x n ids o l = found_from x n l tt
+
+-- what was found is one of the pieces
+
+pair_piece : (x : TypesInText) (n : ℕ) {from : Option PieceAt} {first second : Link} {a : PieceAt} → ArePairIn x n from first second a → Contains x.pieces.items a
+pair_piece x n (of_value v) = v.is.contained
+pair_piece x n (of_entry (within h)) = h.contained
+pair_piece x n (of_entry (named h)) = h.is.contained
+
+one_piece : (x : TypesInText) (n : ℕ) {from : Option PieceAt} {m : Link} {a : PieceAt} → IsOneIn x n from m a → Contains x.pieces.items a
+one_piece x n (of_type t) = t.is.contained
+one_piece x n (of_key k) = k.is.contained
+
+piece_from : (x : TypesInText) (n : ℕ) {from to : Option PieceAt} {ms : List Link} → LeadsIn x n from ms to → IfSome from (Contains x.pieces.items) → IfSome to (Contains x.pieces.items)
+piece_from x n arrives h = h
+piece_from x n (to_pair v l) h = piece_from x n l (pair_piece x n v)
+piece_from x n (to_one none t l) h = piece_from x n l (one_piece x n t)
+piece_from x n (passes none t l) h = piece_from x n l h
+
+pub found_piece : (x : TypesInText) (n : ℕ) (ids : List Link) (a : PieceAt) → LeadsIn x n None ids (Some a) → Contains x.pieces.items a
+found_piece x n ids a l = piece_from x n l tt
 
 -- what is found by origins is found by the types that have them
 
-pub any_type : (x : Sources) (n : ℕ) (from : Option PieceAt) (id : Link) (a : PieceAt) {o : TypeOrigin} → origin_at x id ≡ Some o → IsOfOrigin x o a → IsFrom x n from a → IsTypeIn x n from id a
+pub any_type : (x : TypesInText) (n : ℕ) (from : Option PieceAt) (id : Link) (a : PieceAt) {o : TypeOrigin} → origin_at x id ≡ Some o → IsOfOrigin x o a → IsFrom x n from a → IsTypeIn x n from id a
 any_type x n from id a {o = o} there is inside = record { origin = o; there = there; is = is; inside = inside }
 
-pub of_same : (x : Sources) (a : PieceAt) (o p : TypeOrigin) → o ≡ p → IsOfOrigin x o a → IsOfOrigin x p a
+pub of_same : (x : TypesInText) (a : PieceAt) (o p : TypeOrigin) → o ≡ p → IsOfOrigin x o a → IsOfOrigin x p a
 of_same x a o p e h = record { contained = h.contained; same = h.same ∙ ap Some e }
 
-pub no_type : (x : Sources) (n : ℕ) (from : Option PieceAt) (id : Link) (a : PieceAt) {o : TypeOrigin} → origin_at x id ≡ Some o → ((b : PieceAt) → IsOfOrigin x o b → IsFrom x n from b → ⊥) → IsTypeIn x n from id a → ⊥
+pub no_type : (x : TypesInText) (n : ℕ) (from : Option PieceAt) (id : Link) (a : PieceAt) {o : TypeOrigin} → origin_at x id ≡ Some o → ((b : PieceAt) → IsOfOrigin x o b → IsFrom x n from b → ⊥) → IsTypeIn x n from id a → ⊥
 no_type x n from id a {o = o} there none h = none a (of_same x a h.origin o (same_some (sym h.there ∙ there)) h.is) h.inside
 
-pub any_value : (x : Sources) (n : ℕ) (from : Option PieceAt) (key id : Link) (a : PieceAt) {k o : TypeOrigin} → origin_at x key ≡ Some k → origin_at x id ≡ Some o → IsOfOrigin x o a → IsInMapFrom x n from a → a.key ≡ Some k → IsValueIn x n from key id a
+pub any_value : (x : TypesInText) (n : ℕ) (from : Option PieceAt) (key id : Link) (a : PieceAt) {k o : TypeOrigin} → origin_at x key ≡ Some k → origin_at x id ≡ Some o → IsOfOrigin x o a → IsInMapFrom x n from a → a.key ≡ Some k → IsValueIn x n from key id a
 any_value x n from key id a {k = k} {o = o} there is_there is inside same = record { key_origin = k; key_there = there; same = same; origin = o; there = is_there; is = is; inside = inside }
 
-pub no_value : (x : Sources) (n : ℕ) (from : Option PieceAt) (key id : Link) (a : PieceAt) {k o : TypeOrigin} → origin_at x key ≡ Some k → origin_at x id ≡ Some o → ((b : PieceAt) → IsOfOrigin x o b → IsInMapFrom x n from b → b.key ≡ Some k → ⊥) → IsValueIn x n from key id a → ⊥
+pub no_value : (x : TypesInText) (n : ℕ) (from : Option PieceAt) (key id : Link) (a : PieceAt) {k o : TypeOrigin} → origin_at x key ≡ Some k → origin_at x id ≡ Some o → ((b : PieceAt) → IsOfOrigin x o b → IsInMapFrom x n from b → b.key ≡ Some k → ⊥) → IsValueIn x n from key id a → ⊥
 no_value x n from key id a {k = k} {o = o} there is_there none h = none a (of_same x a h.origin o (same_some (sym h.there ∙ is_there)) h.is) h.inside (h.same ∙ ap Some (same_some (sym h.key_there ∙ there)))
 
-pub any_key : (x : Sources) (n : ℕ) (from : Option PieceAt) (key : TypeId) (a : PieceAt) {o : TypeOrigin} → origin_at x (L.Type key) ≡ Some o → IsKeyPlace x o a → IsInMapFrom x n from a → IsKeyIn x n from key a
+pub any_key : (x : TypesInText) (n : ℕ) (from : Option PieceAt) (key : TypeId) (a : PieceAt) {o : TypeOrigin} → origin_at x (L.Type key) ≡ Some o → IsKeyPlace x o a → IsInMapFrom x n from a → IsKeyIn x n from key a
 any_key x n from key a {o = o} there is inside = record { origin = o; there = there; is = is; inside = inside }
 
-pub no_key : (x : Sources) (n : ℕ) (from : Option PieceAt) (key : TypeId) (a : PieceAt) {o : TypeOrigin} → origin_at x (L.Type key) ≡ Some o → ((b : PieceAt) → IsKeyPlace x o b → IsInMapFrom x n from b → ⊥) → IsKeyIn x n from key a → ⊥
+pub no_key : (x : TypesInText) (n : ℕ) (from : Option PieceAt) (key : TypeId) (a : PieceAt) {o : TypeOrigin} → origin_at x (L.Type key) ≡ Some o → ((b : PieceAt) → IsKeyPlace x o b → IsInMapFrom x n from b → ⊥) → IsKeyIn x n from key a → ⊥
 no_key x n from key a {o = o} there none h = none a (subst (λ (p : TypeOrigin). IsKeyPlace x p a) (same_some (sym h.there ∙ there)) h.is) h.inside
 
 same_key : {j k : TypeId} → L.Key j ≡ L.Key k → j ≡ k
@@ -170,14 +190,14 @@ same_place e = cc
 
 -- an entry of what was found before
 
-pub any_entry : (x : Sources) (from : Option PieceAt) (around : PieceAt) (k i : ℕ) (a : PieceAt) → from ≡ Some around → IsEntryOf x (Some around) k i a → IsEntryOf x from k i a
+pub any_entry : (x : TypesInText) (from : Option PieceAt) (around : PieceAt) (k i : ℕ) (a : PieceAt) → from ≡ Some around → IsEntryOf x (Some around) k i a → IsEntryOf x from k i a
 any_entry x from around k i a e h = subst (λ (o : Option PieceAt). IsEntryOf x o k i a) (sym e) h
 
-pub no_entry : (x : Sources) (from : Option PieceAt) (around : PieceAt) (k i : ℕ) (a : PieceAt) → from ≡ Some around → (IsEntryWithin x around k i a → ⊥) → (IsEntryNamed x around k i a → ⊥) → IsEntryOf x from k i a → ⊥
+pub no_entry : (x : TypesInText) (from : Option PieceAt) (around : PieceAt) (k i : ℕ) (a : PieceAt) → from ≡ Some around → (IsEntryWithin x around k i a → ⊥) → (IsEntryNamed x around k i a → ⊥) → IsEntryOf x from k i a → ⊥
 no_entry x from around k i a e none other (within {around = b} h) = none (subst (λ (c : PieceAt). IsEntryWithin x c k i a) (same_some e) h)
 no_entry x from around k i a e none other (named {around = b} h) = other (subst (λ (c : PieceAt). IsEntryNamed x c k i a) (same_some e) h)
 
-pub no_entry_from : (x : Sources) (from : Option PieceAt) (k i : ℕ) (a : PieceAt) → from ≡ None → IsEntryOf x from k i a → ⊥
+pub no_entry_from : (x : TypesInText) (from : Option PieceAt) (k i : ℕ) (a : PieceAt) → from ≡ None → IsEntryOf x from k i a → ⊥
 no_entry_from x from k i a e (within h) = cc
 no_entry_from x from k i a e (named h) = cc
 
@@ -194,10 +214,10 @@ at_most_after n i (suc j) [] l = omega arith
 at_most_after n zero (suc j) (r ∷ rs) l = at_most_all n j rs
 at_most_after n (suc i) (suc j) (r ∷ rs) l = at_most_after n i j rs (omega (arith, l))
 
-after_is : (x : Sources) (n k i own : ℕ) → IsAlternative x n k i own → own + counted n (drop (suc i) x.rules.items) ≡ k
+after_is : (x : TypesInText) (n k i own : ℕ) → IsAlternative x n k i own → own + counted n (drop (suc i) x.rules.items) ≡ k
 after_is x n k i own h = let e : i + 1 ≡ suc i = omega arith in ap (λ (j : ℕ). own + counted n (drop j x.rules.items)) (sym e) ∙ h.after
 
-pub one_alternative : (x : Sources) (n k i j a b : ℕ) → IsAlternative x n k i a → IsAlternative x n k j b → (i ≡ j) × (a ≡ b)
+pub one_alternative : (x : TypesInText) (n k i j a b : ℕ) → IsAlternative x n k i a → IsAlternative x n k j b → (i ≡ j) × (a ≡ b)
 one_alternative x n k i j a b h g = elim (tri i j) [ inl l ↦ absurd (apart i j a b h g l) | inr m ↦ elim m [ inl e ↦ (e, equal e) | inr l ↦ absurd (apart j i b a g h l) ] ]
   where
     tri : (i j : ℕ) → (i < j) ⊎ ((i ≡ j) ⊎ (j < i))
@@ -220,7 +240,7 @@ one_alternative x n k i j a b h g = elim (tri i j) [ inl l ↦ absurd (apart i j
         let second = ap (λ (m : ℕ). b + counted n (drop (suc m) x.rules.items)) e ∙ after_is x n k j b g in
         omega (arith, first, second)
 
-pub no_alternative : (x : Sources) (n k i own rest : ℕ) → rest + counted n x.rules.items ≡ k → IsAlternative x n k i own → ⊥
+pub no_alternative : (x : TypesInText) (n k i own rest : ℕ) → rest + counted n x.rules.items ≡ k → IsAlternative x n k i own → ⊥
 no_alternative x n k i own rest e h =
     let first = after_is x n k i own h in
     let less = h.less in
@@ -245,7 +265,7 @@ pub counted_none : (n : ℕ) (rs : List RuleAt) → counted n (drop (length rs) 
 counted_none n [] = refl
 counted_none n (r ∷ rs) = counted_none n rs
 
-pub no_named : (x : Sources) (around : PieceAt) (n k i rule own : ℕ) (a : PieceAt) → around.name ≡ Some n → IsAlternative x n k rule own → ((b : PieceAt) → IsEntryOfRule x rule own i b → ⊥) → IsEntryNamed x around k i a → ⊥
+pub no_named : (x : TypesInText) (around : PieceAt) (n k i rule own : ℕ) (a : PieceAt) → around.name ≡ Some n → IsAlternative x n k rule own → ((b : PieceAt) → IsEntryOfRule x rule own i b → ⊥) → IsEntryNamed x around k i a → ⊥
 no_named x around n k i rule own a e f none h =
     let name : h.name ≡ n = same_some (sym h.is_name ∙ e) in
     let same = one_alternative x n k a.rule rule h.own own (subst (λ (m : ℕ). IsAlternative x m k a.rule h.own) name h.is_alternative) f in
@@ -253,45 +273,45 @@ no_named x around n k i rule own a e f none h =
 
 -- what two links lead to together, by the forms that they have
 
-pub pair_value : (x : Sources) (n : ℕ) (from : Option PieceAt) (first second : Link) (a : PieceAt) {m : TypeId} → first ≡ L.Type m → ArePairIn x n from first second a → IsValueIn x n from first second a
+pub pair_value : (x : TypesInText) (n : ℕ) (from : Option PieceAt) (first second : Link) (a : PieceAt) {m : TypeId} → first ≡ L.Type m → ArePairIn x n from first second a → IsValueIn x n from first second a
 pair_value x n from first second a e (of_value v) = v
 pair_value x n from first second a e (of_entry h) = cc
 
-pub pair_entry : (x : Sources) (n : ℕ) (from : Option PieceAt) (first second : Link) (a : PieceAt) {k i : ℕ} → first ≡ L.Alternative k → second ≡ L.Entry i → ArePairIn x n from first second a → IsEntryOf x from k i a
+pub pair_entry : (x : TypesInText) (n : ℕ) (from : Option PieceAt) (first second : Link) (a : PieceAt) {k i : ℕ} → first ≡ L.Alternative k → second ≡ L.Entry i → ArePairIn x n from first second a → IsEntryOf x from k i a
 pair_entry x n from first second a {k = k} e f (of_value v) = absurd (no_some (sym (ap (origin_at x) e) ∙ v.key_there))
 pair_entry x n from first second a {i = i} e f (of_entry {k = l} {i = z} h) = subst (λ (j : ℕ). IsEntryOf x from j i a) (same_alternative e) (subst (λ (j : ℕ). IsEntryOf x from l j a) (same_place f) h)
 
-pub no_pair_entry : (x : Sources) (n : ℕ) (from : Option PieceAt) (first second : Link) (a : PieceAt) {i : ℕ} → first ≡ L.Entry i → ArePairIn x n from first second a → ⊥
+pub no_pair_entry : (x : TypesInText) (n : ℕ) (from : Option PieceAt) (first second : Link) (a : PieceAt) {i : ℕ} → first ≡ L.Entry i → ArePairIn x n from first second a → ⊥
 no_pair_entry x n from first second a e (of_value v) = no_some (sym (ap (origin_at x) e) ∙ v.key_there)
 no_pair_entry x n from first second a e (of_entry h) = cc
 
-pub no_pair_type : (x : Sources) (n : ℕ) (from : Option PieceAt) (first second : Link) (a : PieceAt) {k : ℕ} {m : TypeId} → first ≡ L.Alternative k → second ≡ L.Type m → ArePairIn x n from first second a → ⊥
+pub no_pair_type : (x : TypesInText) (n : ℕ) (from : Option PieceAt) (first second : Link) (a : PieceAt) {k : ℕ} {m : TypeId} → first ≡ L.Alternative k → second ≡ L.Type m → ArePairIn x n from first second a → ⊥
 no_pair_type x n from first second a e f (of_value v) = no_some (sym (ap (origin_at x) e) ∙ v.key_there)
 no_pair_type x n from first second a e f (of_entry h) = cc
 
-pub no_pair_alternative : (x : Sources) (n : ℕ) (from : Option PieceAt) (first second : Link) (a : PieceAt) {k j : ℕ} → first ≡ L.Alternative k → second ≡ L.Alternative j → ArePairIn x n from first second a → ⊥
+pub no_pair_alternative : (x : TypesInText) (n : ℕ) (from : Option PieceAt) (first second : Link) (a : PieceAt) {k j : ℕ} → first ≡ L.Alternative k → second ≡ L.Alternative j → ArePairIn x n from first second a → ⊥
 no_pair_alternative x n from first second a e f (of_value v) = no_some (sym (ap (origin_at x) e) ∙ v.key_there)
 no_pair_alternative x n from first second a e f (of_entry h) = cc
 
-pub no_pair_key : (x : Sources) (n : ℕ) (from : Option PieceAt) (first second : Link) (a : PieceAt) {m : TypeId} → first ≡ L.Key m → ArePairIn x n from first second a → ⊥
+pub no_pair_key : (x : TypesInText) (n : ℕ) (from : Option PieceAt) (first second : Link) (a : PieceAt) {m : TypeId} → first ≡ L.Key m → ArePairIn x n from first second a → ⊥
 no_pair_key x n from first second a e (of_value v) = no_some (sym (ap (origin_at x) e) ∙ v.key_there)
 no_pair_key x n from first second a e (of_entry h) = cc
 
 -- what one link leads to by itself, by the form that it has
 
-pub one_type : (x : Sources) (n : ℕ) (from : Option PieceAt) (m : Link) (a : PieceAt) {t : TypeId} → m ≡ L.Type t → IsOneIn x n from m a → IsTypeIn x n from m a
+pub one_type : (x : TypesInText) (n : ℕ) (from : Option PieceAt) (m : Link) (a : PieceAt) {t : TypeId} → m ≡ L.Type t → IsOneIn x n from m a → IsTypeIn x n from m a
 one_type x n from m a e (of_type t) = t
 one_type x n from m a e (of_key h) = cc
 
-pub one_key : (x : Sources) (n : ℕ) (from : Option PieceAt) (m : Link) (a : PieceAt) {key : TypeId} → m ≡ L.Key key → IsOneIn x n from m a → IsKeyIn x n from key a
+pub one_key : (x : TypesInText) (n : ℕ) (from : Option PieceAt) (m : Link) (a : PieceAt) {key : TypeId} → m ≡ L.Key key → IsOneIn x n from m a → IsKeyIn x n from key a
 one_key x n from m a e (of_type t) = absurd (no_some (sym (ap (origin_at x) e) ∙ t.there))
 one_key x n from m a e (of_key h) = subst (λ (i : TypeId). IsKeyIn x n from i a) (same_key e) h
 
-pub no_one_alternative : (x : Sources) (n : ℕ) (from : Option PieceAt) (m : Link) (a : PieceAt) {k : ℕ} → m ≡ L.Alternative k → IsOneIn x n from m a → ⊥
+pub no_one_alternative : (x : TypesInText) (n : ℕ) (from : Option PieceAt) (m : Link) (a : PieceAt) {k : ℕ} → m ≡ L.Alternative k → IsOneIn x n from m a → ⊥
 no_one_alternative x n from m a e (of_type t) = no_some (sym (ap (origin_at x) e) ∙ t.there)
 no_one_alternative x n from m a e (of_key h) = cc
 
-pub no_one_entry : (x : Sources) (n : ℕ) (from : Option PieceAt) (m : Link) (a : PieceAt) {i : ℕ} → m ≡ L.Entry i → IsOneIn x n from m a → ⊥
+pub no_one_entry : (x : TypesInText) (n : ℕ) (from : Option PieceAt) (m : Link) (a : PieceAt) {i : ℕ} → m ≡ L.Entry i → IsOneIn x n from m a → ⊥
 no_one_entry x n from m a e (of_type t) = no_some (sym (ap (origin_at x) e) ∙ t.there)
 no_one_entry x n from m a e (of_key h) = cc
 
@@ -309,7 +329,7 @@ if_none None P h = h
 if_none (Some a) P h = tt
 
 -- the state after one item more of a list
-pub next_state : (x : Sources) (chain : List Link) (i : ℕ) (st new : Option State) (id : Link) → i < length chain → IsStateOf x (take i chain) st → ((ids : List Link) → IsStateOf x ids st → IsStateOf x (ids ++ id ∷ []) new) → get_or chain i id ≡ id → IsStateOf x (take (i + 1) chain) new
+pub next_state : (x : TypesInText) (chain : List Link) (i : ℕ) (st new : Option State) (id : Link) → i < length chain → IsStateOf x (take i chain) st → ((ids : List Link) → IsStateOf x ids st → IsStateOf x (ids ++ id ∷ []) new) → get_or chain i id ≡ id → IsStateOf x (take (i + 1) chain) new
 next_state x chain i st new id lt h f e =
     subst (λ (ids : List Link). IsStateOf x ids new) (ap (λ (y : Link). take i chain ++ y ∷ []) (sym e) ∙ sym (take_more chain i id lt)) (f (take i chain) h)
 
@@ -338,7 +358,7 @@ get_there (y ∷ ys) (suc i) d l = get_there ys i d (omega (arith, l))
 
 -- a rule with a number, among those so far
 
-pub no_number : (x : Sources) (n place : ℕ) (rs : List RuleAt) (d : RuleAt) → ((get_or rs place d).number ≡ n → ⊥) → rs ≡ x.rules.items → place < length rs → ((j : ℕ) → j < place → HasNumber x j n → ⊥) → (i : ℕ) → i < place + 1 → HasNumber x i n → ⊥
+pub no_number : (x : TypesInText) (n place : ℕ) (rs : List RuleAt) (d : RuleAt) → ((get_or rs place d).number ≡ n → ⊥) → rs ≡ x.rules.items → place < length rs → ((j : ℕ) → j < place → HasNumber x j n → ⊥) → (i : ℕ) → i < place + 1 → HasNumber x i n → ⊥
 no_number x n place rs d other e l before i m h = elim (below i place m) [ inl b ↦ before i b h | inr is ↦ here is ]
   where
     here : i ≡ place → ⊥
@@ -346,5 +366,5 @@ no_number x n place rs d other e l before i m h = elim (below i place m) [ inl b
         let there : slice_get rs place ≡ Some h.at = subst (λ (j : ℕ). slice_get rs j ≡ Some h.at) is (ap (λ (ys : List RuleAt). slice_get ys i) e ∙ h.there) in
         other (ap (λ (r : RuleAt). r.number) (same_some (sym (get_there rs place d l) ∙ there)) ∙ h.same)
 
-pub no_number_at_all : (x : Sources) (n place : ℕ) (rs : List RuleAt) → rs ≡ x.rules.items → length rs ≤ place → ((j : ℕ) → j < place → HasNumber x j n → ⊥) → (i : ℕ) → HasNumber x i n → ⊥
+pub no_number_at_all : (x : TypesInText) (n place : ℕ) (rs : List RuleAt) → rs ≡ x.rules.items → length rs ≤ place → ((j : ℕ) → j < place → HasNumber x j n → ⊥) → (i : ℕ) → HasNumber x i n → ⊥
 no_number_at_all x n place rs e le before i h = let l = list_within rs i h.at (ap (λ (ys : List RuleAt). slice_get ys i) e ∙ h.there) in before i (omega (arith, l, le)) h

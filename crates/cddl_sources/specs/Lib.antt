@@ -1,4 +1,6 @@
 pub mod Copies
+pub mod Filling
+pub mod Instances
 pub mod Origins
 pub mod Pieces
 pub mod Places

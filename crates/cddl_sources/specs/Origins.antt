@@ -4,11 +4,12 @@ use Rattle.cddl_token.specs.declared.Token.{Token}
 use Rattle.tree_nodes.specs.Syntax.Syntax as S
 use Rattle.tree_nodes.specs.declared.tree.Leaf.{Leaf}
 use Rattle.cddl_language.specs.Reading.{term_of, text_of}
-use Rattle.cddl_language.specs.Terms.{Text}
+use Rattle.cddl_language.specs.Terms.{Term, Text}
 use Rattle.check_terms.specs.Table.{Table}
 use Rattle.check_terms.specs.Trees.{IsTerm}
 use Rattle.table_making.specs.declared.origin.TypeOrigin.{TypeOrigin}
 use Rattle.table_making.specs.declared.origin.TypeOrigin.TheVariants as T
+use Rattle.cddl_sources.specs.Instances.{as_written}
 use Rattle.cddl_sources.specs.Pieces.{Around, Inner, Piece, a_key, a_member, a_type, a_value, a_word, an_entry, brackets, in_rule, name_there, the_rule, tokens_of_piece}
 use Rattle.cddl_sources.specs.Spans.{IsSpan}
 use Rattle.cddl_sources.specs.Walk.{view_found}
@@ -17,26 +18,28 @@ use Rattle.cddl_sources.specs.declared.piece.EntryAt.{EntryAt}
 use Rattle.cddl_sources.specs.declared.piece.PieceAt.{PieceAt}
 use Rattle.cddl_sources.specs.declared.span.Span.{Span}
 
-pub data IsOriginOf (t : Table) : Piece → TypeOrigin → Type 0 where
-  of_type : {x : S.Types} {n : ℕ} → IsTerm t n (term_of x) → IsOriginOf t (a_type x) (T.Row n)
-  of_word : {w : Token} {k : ℕ} → slice_get t.texts k ≡ Some (text_of w) → IsOriginOf t (a_word w) (T.Word k)
-  of_value : {a : Around} {k : Piece} {x : S.Types} {n : ℕ} → IsTerm t n (term_of x) → IsOriginOf t (a_value a k x) (T.Row n)
+-- Of what a piece is, by what a term of its rule is in an instance.
+
+pub data IsClosedOrigin (closed : Term → Term) (t : Table) : Piece → TypeOrigin → Type 0 where
+  of_type : {x : S.Types} {n : ℕ} → IsTerm t n (closed (term_of x)) → IsClosedOrigin closed t (a_type x) (T.Row n)
+  of_word : {w : Token} {k : ℕ} → slice_get t.texts k ≡ Some (text_of w) → IsClosedOrigin closed t (a_word w) (T.Word k)
+  of_value : {a : Around} {k : Piece} {x : S.Types} {n : ℕ} → IsTerm t n (closed (term_of x)) → IsClosedOrigin closed t (a_value a k x) (T.Row n)
 
 -- what the piece is of, which an entry is not, nor a member, nor what an entry has as its key
-pub data MayBeOf (t : Table) : Piece → Option TypeOrigin → Type 0 where
-  is_of : {p : Piece} {u : TypeOrigin} → IsOriginOf t p u → MayBeOf t p (Some u)
-  no_type : {a : Around} {k i : ℕ} {e : Inner} → MayBeOf t (an_entry a k i e) None
-  may_be_group : {a : Around} {x : S.Types} → MayBeOf t (a_member a x) None
-  in_its_place : {a : Around} {k : Piece} → MayBeOf t (a_key a k) None
+pub data MayBeClosed (closed : Term → Term) (t : Table) : Piece → Option TypeOrigin → Type 0 where
+  is_of : {p : Piece} {u : TypeOrigin} → IsClosedOrigin closed t p u → MayBeClosed closed t p (Some u)
+  no_type : {a : Around} {k i : ℕ} {e : Inner} → MayBeClosed closed t (an_entry a k i e) None
+  may_be_group : {a : Around} {x : S.Types} → MayBeClosed closed t (a_member a x) None
+  in_its_place : {a : Around} {k : Piece} → MayBeClosed closed t (a_key a k) None
 
 -- what the key is of, where the piece is that of an entry or a value's type
-abbrev pub IsKeyOf : Table → Piece → Option TypeOrigin → Type 0
-IsKeyOf t (a_key a k) o = MayBeOf t k o
-IsKeyOf t (a_value a k x) o = MayBeOf t k o
-IsKeyOf t (a_type x) o = o ≡ None
-IsKeyOf t (a_word w) o = o ≡ None
-IsKeyOf t (a_member a x) o = o ≡ None
-IsKeyOf t (an_entry a k i e) o = o ≡ None
+abbrev pub IsClosedKey : (closed : Term → Term) → Table → Piece → Option TypeOrigin → Type 0
+IsClosedKey closed t (a_key a k) o = MayBeClosed closed t k o
+IsClosedKey closed t (a_value a k x) o = MayBeClosed closed t k o
+IsClosedKey closed t (a_type x) o = o ≡ None
+IsClosedKey closed t (a_word w) o = o ≡ None
+IsClosedKey closed t (a_member a x) o = o ≡ None
+IsClosedKey closed t (an_entry a k i e) o = o ≡ None
 
 -- where the brackets are round a group
 abbrev pub AreRound : Around → Option Span → Type 0
@@ -72,13 +75,24 @@ IsNumberOf t None o = o ≡ None
 IsNumberOf t (Some y) o = (n : ℕ) × (o ≡ Some n) × (slice_get t.texts n ≡ Some y)
 
 -- It is that piece.
-pub record IsPieceAt (t : Table) (p : Piece) (a : PieceAt) : Type 0 where
-  pub origin : MayBeOf t p a.origin
-  pub key : IsKeyOf t p a.key
+pub record IsClosedPiece (closed : Term → Term) (t : Table) (p : Piece) (a : PieceAt) : Type 0 where
+  pub origin : MayBeClosed closed t p a.origin
+  pub key : IsClosedKey closed t p a.key
   pub around : AreRoundIt p a.around
   pub entry : MayBeIn p a.entry
   pub name : IsNumberOf t (name_there p) a.name
   pub span : IsSpan (tokens_of_piece p) a.span
+
+-- The same of pieces as they are written.
+
+abbrev pub MayBeOf : Table → Piece → Option TypeOrigin → Type 0
+MayBeOf t p o = MayBeClosed as_written t p o
+
+abbrev pub IsKeyOf : Table → Piece → Option TypeOrigin → Type 0
+IsKeyOf t p o = IsClosedKey as_written t p o
+
+abbrev pub IsPieceAt : Table → Piece → PieceAt → Type 0
+IsPieceAt t p a = IsClosedPiece as_written t p a
 
 -- read of the node f
 pub record IsRead (t : Table) (read : Leaf → Token) (f : Found) (a : PieceAt) : Type 0 where
@@ -91,14 +105,14 @@ pub record AreRead (t : Table) (read : Leaf → Token) (fs : List Found) (xs : L
   pub all : (f : Found) → Contains fs f → (a : PieceAt) × Contains xs a × IsRead t read f a
 
 -- It stands in the rule at its place.
-pub record Stands (t : Table) (rs : List S.Rule) (a : PieceAt) : Type 0 where
+pub record Stands (closed : S.Rule → Term → Term) (t : Table) (rs : List S.Rule) (a : PieceAt) : Type 0 where
   pub rule : S.Rule
   pub piece : Piece
   pub there : slice_get rs a.rule ≡ Some rule
   pub contained : Contains (in_rule rule) piece
-  pub is : IsPieceAt t piece a
+  pub is : IsClosedPiece (closed rule) t piece a
 
 -- Each stands in a rule, and what stands in a rule is among them.
-pub record ArePieces (t : Table) (rs : List S.Rule) (xs : List PieceAt) : Type 0 where
-  pub each : (a : PieceAt) → Contains xs a → Stands t rs a
-  pub all : (i : ℕ) (r : S.Rule) (p : Piece) → slice_get rs i ≡ Some r → Contains (in_rule r) p → (a : PieceAt) × Contains xs a × (a.rule ≡ i) × IsPieceAt t p a
+pub record ArePieces (closed : S.Rule → Term → Term) (t : Table) (rs : List S.Rule) (xs : List PieceAt) : Type 0 where
+  pub each : (a : PieceAt) → Contains xs a → Stands closed t rs a
+  pub all : (i : ℕ) (r : S.Rule) (p : Piece) → slice_get rs i ≡ Some r → Contains (in_rule r) p → (a : PieceAt) × Contains xs a × (a.rule ≡ i) × IsClosedPiece (closed r) t p a

@@ -6,7 +6,7 @@ use Rattle.tree_nodes.specs.Syntax.Syntax as S
 use Rattle.cddl_language.specs.Language.{TypeName, type, word}
 use Rattle.cddl_language.specs.Reading.{term_of, text_of}
 use Rattle.cddl_language.specs.Sites.{ref_name}
-use Rattle.cddl_language.specs.Terms.{Text}
+use Rattle.cddl_language.specs.Terms.{Term, Text}
 
 -- what is round a group: brackets, or a rule of which it is the body
 pub data Around : Type 0 where
@@ -143,15 +143,24 @@ abbrev pub rule_by_rule : ℕ → List S.Rule → List (ℕ × Piece)
 rule_by_rule k [] = []
 rule_by_rule k (r ∷ rs) = placed k (in_rule r) ++ rule_by_rule (k + 1) rs
 
--- The name of a table's type that is of it, where the rule has no parameters in it. An entry is no type, a member may be a group, and
--- what an entry has as its key is a type or a word in a place of its own.
-abbrev pub name_of_piece : Piece → Option TypeName
-name_of_piece (a_type x) = Some (type (term_of x))
-name_of_piece (a_word t) = Some (word (text_of t))
-name_of_piece (a_key a k) = None
-name_of_piece (a_value a k x) = Some (type (term_of x))
-name_of_piece (a_member a x) = None
-name_of_piece (an_entry a k i e) = None
+-- The name of a table's type that is of it, by what a term of its rule is in an instance. An entry is no type, a member may be a group,
+-- and what an entry has as its key is a type or a word in a place of its own.
+abbrev pub name_of_piece : (closed : Term → Term) → Piece → Option TypeName
+name_of_piece closed (a_type x) = Some (type (closed (term_of x)))
+name_of_piece closed (a_word t) = Some (word (text_of t))
+name_of_piece closed (a_key a k) = None
+name_of_piece closed (a_value a k x) = Some (type (closed (term_of x)))
+name_of_piece closed (a_member a x) = None
+name_of_piece closed (an_entry a k i e) = None
+
+-- the same of what an entry has as its key in its place there, by its key
+abbrev pub told_name : (closed : Term → Term) → Piece → Option TypeName
+told_name closed (a_key a k) = name_of_piece closed k
+told_name closed (a_type x) = Some (type (closed (term_of x)))
+told_name closed (a_word t) = Some (word (text_of t))
+told_name closed (a_value a k x) = Some (type (closed (term_of x)))
+told_name closed (a_member a x) = None
+told_name closed (an_entry a k i e) = None
 
 -- A type without the parentheses round all of it.
 

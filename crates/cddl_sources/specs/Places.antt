@@ -1,14 +1,15 @@
 -- Where a type of the table stands in the text, of which links led to it.
-use Rattle.std.specs.Prelude.{◌≡◌, ℕ, ◌+◌, ◌<◌, List, [], ◌∷◌, ◌++◌, drop, Contains, Option, Some, None, slice_get}
+use Rattle.std.specs.Prelude.{◌≡◌, ℕ, ◌+◌, ◌<◌, Bool, true, List, [], ◌∷◌, ◌++◌, drop, Contains, Option, Some, None, slice_get}
 use Rattle.cddl_token.specs.declared.Token.{Token}
 use Rattle.tree_nodes.specs.Syntax.Syntax as S
 use Rattle.cddl_language.specs.Language.{TypeName, reference}
 use Rattle.cddl_language.specs.Reading.{name_in}
-use Rattle.cddl_language.specs.Terms.{Ref, Text, name_of}
+use Rattle.cddl_language.specs.Terms.{Ref, Term, Text, name_of}
 use Rattle.table_nodes.specs.declared.nodes.TypeId.{TypeId}
 use Rattle.type_links.specs.declared.link.Link.{Link}
 use Rattle.type_links.specs.declared.link.Link.TheVariants as L
-use Rattle.cddl_sources.specs.Pieces.{Around, Inner, Piece, a_key, a_member, a_value, alternatives_of, an_entry, brackets, in_rule, name_of_piece, name_there, the_rule, tokens_of_piece}
+use Rattle.cddl_sources.specs.Instances.{has_arguments, term_in}
+use Rattle.cddl_sources.specs.Pieces.{Around, Inner, Piece, a_key, a_member, a_value, alternatives_of, an_entry, brackets, in_rule, name_of_piece, name_there, the_rule, told_name, tokens_of_piece}
 use Rattle.cddl_sources.specs.Spans.{IsNameSpan, IsSpan, IsWithin, Spot, body_tokens}
 use Rattle.cddl_sources.specs.declared.place.Place.{Place}
 use Rattle.cddl_sources.specs.declared.span.Span.{Span}
@@ -34,6 +35,11 @@ module _ (rules : List S.Rule) (names : TypeName → TypeId → Type 0) where
   abbrev pub IsOfNoRule : Link → Type 0
   IsOfNoRule m = (r : S.Rule) → Contains rules r → IsInstanceOf (name_in r) m → ⊥
 
+  -- the first of these, if there is any, is to an instance
+  abbrev pub BeginsWithInstance : List Link → Type 0
+  BeginsWithInstance [] = Unit {0}
+  BeginsWithInstance (m ∷ ms) = (q : Ref) × LeadsTo names (reference q) m
+
   -- There stands the piece.
   pub record Stands (p : Piece) (at : Spot) : Type 0 where
     pub rule : S.Rule
@@ -47,16 +53,6 @@ module _ (rules : List S.Rule) (names : TypeName → TypeId → Type 0) where
   StandsAt n None p at = (h : Stands p at) × (name_in h.rule ≡ n)
   StandsAt n (Some o) p at = Stands p at × IsWithin o at
 
-  -- the piece is of the type to which the link is
-  abbrev pub IsOf : Piece → Link → Type 0
-  IsOf p m = (y : TypeName) × (name_of_piece p ≡ Some y) × LeadsTo names y m
-
-  -- the same of what the type is of to which this link is
-  pub record IsTypeAt (n : Text) (from : Option Spot) (m : Link) (at : Spot) : Type 0 where
-    pub piece : Piece
-    pub stands : StandsAt n from piece at
-    pub is : IsOf piece m
-
   -- The name is that of a group whose entries are the map's: it is a member of the map by itself, or of a group of such a name.
   pub data IsSpliced (map : Spot) : Text → Type 0 where
     named_in_map : {a : Around} {t : S.Types} {at : Spot} {n : Text} → Stands (a_member a t) at → at.name ≡ Some n → at.rule ≡ map.rule → AreEnds map a → IsSpliced map n
@@ -68,22 +64,6 @@ module _ (rules : List S.Rule) (names : TypeName → TypeId → Type 0) where
     in_a_rule : {a : Around} {p : Piece} {at : Spot} → (h : Stands p at) → name_in h.rule ≡ n → StandsIn n None a p at
     in_map : {map at : Spot} {a : Around} {p : Piece} → Stands p at → at.rule ≡ map.rule → AreEnds map a → StandsIn n (Some map) a p at
     in_group : {map at : Spot} {p : Piece} → (h : Stands p at) → IsSpliced map (name_in h.rule) → StandsIn n (Some map) the_rule p at
-
-  -- the key of an entry of the map that has this type as its key
-  pub record IsKeyAt (n : Text) (from : Option Spot) (key : TypeId) (at : Spot) : Type 0 where
-    pub around : Around
-    pub key_piece : Piece
-    pub stands : StandsIn n from around (a_key around key_piece) at
-    pub is : IsOf key_piece (L.Type key)
-
-  -- the value's type in an entry of the map that has these types as its key and as its value
-  pub record IsValueAt (n : Text) (from : Option Spot) (key m : Link) (at : Spot) : Type 0 where
-    pub around : Around
-    pub key_piece : Piece
-    pub types : S.Types
-    pub stands : StandsIn n from around (a_value around key_piece types) at
-    pub is_key : IsOf key_piece key
-    pub is : IsOf (a_value around key_piece types) m
 
   -- an entry of the group in the brackets that are the ends of the other part of the text
   pub record IsEntryWithin (around : Spot) (alternative place : ℕ) (at : Spot) : Type 0 where
@@ -118,10 +98,38 @@ module _ (rules : List S.Rule) (names : TypeName → TypeId → Type 0) where
     within : {around : Spot} {k i : ℕ} {at : Spot} → IsEntryWithin around k i at → IsEntryAt (Some around) k i at
     named : {around : Spot} {k i : ℕ} {at : Spot} → IsEntryNamed around k i at → IsEntryAt (Some around) k i at
 
+-- The same, with what the terms of each rule are in an instance.
+module _ (rules : List S.Rule) (names : TypeName → TypeId → Type 0) (closed : S.Rule → Term → Term) where
+  -- the piece, which is of the rule in which that part of the text is, is of the type to which the link is
+  abbrev pub IsOf : Spot → Piece → Link → Type 0
+  IsOf at p m = (r : S.Rule) × (slice_get rules at.rule ≡ Some r) × (y : TypeName) × (name_of_piece (closed r) p ≡ Some y) × LeadsTo names y m
+
+  -- the same of what the type is of to which this link is
+  pub record IsTypeAt (n : Text) (from : Option Spot) (m : Link) (at : Spot) : Type 0 where
+    pub piece : Piece
+    pub stands : StandsAt rules names n from piece at
+    pub is : IsOf at piece m
+
+  -- the key of an entry of the map that has this type as its key
+  pub record IsKeyAt (n : Text) (from : Option Spot) (key : TypeId) (at : Spot) : Type 0 where
+    pub around : Around
+    pub key_piece : Piece
+    pub stands : StandsIn rules names n from around (a_key around key_piece) at
+    pub is : IsOf at key_piece (L.Type key)
+
+  -- the value's type in an entry of the map that has these types as its key and as its value
+  pub record IsValueAt (n : Text) (from : Option Spot) (key m : Link) (at : Spot) : Type 0 where
+    pub around : Around
+    pub key_piece : Piece
+    pub types : S.Types
+    pub stands : StandsIn rules names n from around (a_value around key_piece types) at
+    pub is_key : IsOf at key_piece key
+    pub is : IsOf at (a_value around key_piece types) m
+
   -- Two links lead there together: to the value's type in an entry, or to an entry.
   pub data ArePairAt (n : Text) (from : Option Spot) : Link → Link → Spot → Type 0 where
     of_value : {key m : Link} {at : Spot} → IsValueAt n from key m at → ArePairAt n from key m at
-    of_entry : {k i : ℕ} {at : Spot} → IsEntryAt from k i at → ArePairAt n from (L.Alternative k) (L.Entry i) at
+    of_entry : {k i : ℕ} {at : Spot} → IsEntryAt rules names from k i at → ArePairAt n from (L.Alternative k) (L.Entry i) at
 
   -- One link leads there by itself: to a type, or to the key of an entry.
   pub data IsOneAt (n : Text) (from : Option Spot) : Link → Spot → Type 0 where
@@ -142,18 +150,21 @@ module _ (rules : List S.Rule) (names : TypeName → TypeId → Type 0) where
     to_one : {from to : Option Spot} {m : Link} {ms : List Link} {at : Spot} → AreNoPair n from m ms → IsOneAt n from m at → Leads n (Some at) ms to → Leads n from (m ∷ ms) to
     passes : {from to : Option Spot} {m : Link} {ms : List Link} → AreNoPair n from m ms → ((at : Spot) → IsOneAt n from m at → ⊥) → Leads n from ms to → Leads n from (m ∷ ms) to
 
+  -- How the type of this name is told that stands in a part of the text: as it is written in a rule of another name, where there are
+  -- arguments and it is written so; or as what stands there.
+  pub data IsWritten (n : Text) (filled : Bool) (y : Option TypeName) (s : Span) : Span → Type 0 where
+    in_another : {p : Piece} {at : Spot} {z : TypeName} → filled ≡ true → y ≡ Some z → (h : Stands rules names p at) → (name_in h.rule ≡ n → ⊥) → name_of_piece (closed h.rule) p ≡ Some z → IsWritten n filled y s at.span
+    as_it_is : (filled ≡ true → (p : Piece) (at : Spot) (z : TypeName) → y ≡ Some z → (h : Stands rules names p at) → (name_in h.rule ≡ n → ⊥) → name_of_piece (closed h.rule) p ≡ Some z → ⊥) → IsWritten n filled y s s
+
   -- What the links lead to, in the rule; or where they lead to nothing in rules of the name, all of the body of one of these.
-  pub data IsShown (n : Text) (r : S.Rule) (inside : List Link) (s : Span) : Type 0 where
-    a_piece : {at : Spot} → Leads n None inside (Some at) → slice_get rules at.rule ≡ Some r → s ≡ at.span → IsShown n r inside s
-    the_body : name_in r ≡ n → Leads n None inside None → IsSpan (body_tokens r) s → IsShown n r inside s
+  pub data IsShown (n : Text) (filled : Bool) (r : S.Rule) (inside : List Link) (s : Span) : Span → Type 0 where
+    a_piece : {at : Spot} {p : Piece} {w : Span} → Leads n None inside (Some at) → (h : Stands rules names p at) → h.rule ≡ r → s ≡ at.span → IsWritten n filled (told_name (closed r) p) s w → IsShown n filled r inside s w
+    the_body : name_in r ≡ n → Leads n None inside None → IsSpan (body_tokens r) s → IsShown n filled r inside s s
 
-  -- the first of these, if there is any, is to an instance
-  abbrev pub BeginsWithInstance : List Link → Type 0
-  BeginsWithInstance [] = Unit {0}
-  BeginsWithInstance (m ∷ ms) = (q : Ref) × LeadsTo names (reference q) m
-
+-- Where the last of the types to which links lead stands in the text.
+module _ (rules : List S.Rule) (names : TypeName → TypeId → Type 0) where
   -- What counts are the links from the last that is to an instance of a rule of the text to the next instance, which is of the
-  -- prelude.
+  -- prelude; and of the types in the text what they are in that instance, with its arguments in the place of parameters.
   pub record IsPlace (chain : List Link) (p : Place) : Type 0 where
     pub before : List Link
     pub instance : Link
@@ -162,10 +173,10 @@ module _ (rules : List S.Rule) (names : TypeName → TypeId → Type 0) where
     pub split : chain ≡ before ++ instance ∷ (inside ++ outside)
     pub defined : S.Rule
     pub is_defined : Contains rules defined
-    pub is_instance : IsInstanceOf (name_in defined) instance
+    pub is_instance : IsInstanceOf rules names (name_in defined) instance
     pub rule : S.Rule
     pub there : Contains rules rule
-    pub last : (m : Link) → Contains (inside ++ outside) m → IsOfNoRule m
-    pub passed : BeginsWithInstance outside
+    pub last : (m : Link) → Contains (inside ++ outside) m → IsOfNoRule rules names m
+    pub passed : BeginsWithInstance rules names outside
     pub name : IsNameSpan rule p.name
-    pub shown : IsShown (name_in defined) rule inside p.types
+    pub shown : IsShown rules names (term_in is_instance.0) (name_in defined) (has_arguments is_instance.0) rule inside p.types p.written

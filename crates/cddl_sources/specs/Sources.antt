@@ -1,11 +1,12 @@
 -- What is known of a specification's rules and of its types in the text, by the numbers of its terms and of its table.
-use Rattle.std.specs.Prelude.{◌≡◌, ◌<◌, ℕ, List, Some, map, slice_get}
+use Rattle.std.specs.Prelude.{◌≡◌, ◌<◌, ℕ, false, List, Some, map, slice_get}
 use Rattle.tree_nodes.specs.Syntax.Syntax as S
 use Rattle.tree_nodes.specs.View.{view}
 use Rattle.cddl_language.specs.Literals.{AreRight, Values}
-use Rattle.cddl_language.specs.Reading.{name_in, rules_of}
+use Rattle.cddl_language.specs.Reading.{definitions_in, name_in, rules_of}
 use Rattle.cddl_language.specs.StandsFor.{AreInstances}
 use Rattle.cddl_language.specs.Terms.{Ref, Term, Text}
+use Rattle.check_terms.specs.Definitions.{AreDefinitions}
 use Rattle.check_terms.specs.Table.{AreDistinct, Grows, Table}
 use Rattle.check_terms.specs.Trees.{IsRef, IsTerm}
 use Rattle.check_instances.specs.declared.closed.closed.Meaning.{Meaning}
@@ -18,12 +19,14 @@ use Rattle.table_nodes.specs.Nodes.{language_in}
 use Rattle.table_nodes.specs.Language.{language_of, root_of}
 use Rattle.table_nodes.specs.declared.table.Table.{Table as Made}
 use Rattle.cddl_table.specs.Text.{sense}
+use Rattle.cddl_sources.specs.Instances.{all_as_written}
 use Rattle.cddl_sources.specs.Origins.{ArePieces}
 use Rattle.cddl_sources.specs.Pieces.{alternatives_of}
 use Rattle.cddl_sources.specs.States.{name_number}
 use Rattle.cddl_sources.specs.Spans.{IsNameSpan, IsSpan, body_tokens}
 use Rattle.cddl_sources.specs.declared.sources.RuleAt.{RuleAt}
 use Rattle.cddl_sources.specs.declared.sources.Sources.{Sources}
+use Rattle.cddl_sources.specs.declared.sources.TypesInText.{TypesInText}
 
 -- The number of the rule's name, how many alternatives it makes as a group, and where it has its name and its body.
 pub record IsRuleAt (t : Table) (r : S.Rule) (a : RuleAt) : Type 0 where
@@ -37,9 +40,10 @@ pub record AreRules (t : Table) (rs : List S.Rule) (xs : List RuleAt) : Type 0 w
   pub told : (i : ℕ) (a : RuleAt) → slice_get xs i ≡ Some a → (r : S.Rule) × (slice_get rs i ≡ Some r) × IsRuleAt t r a
   pub all : (i : ℕ) (r : S.Rule) → slice_get rs i ≡ Some r → (a : RuleAt) × (slice_get xs i ≡ Some a)
 
--- What is made by the table of terms t, the meanings of instances, the rules of the text, and the origins of a table's types. The
--- table u has all that t has by the same numbers, and what stands in the text has its numbers there.
-pub record IsMade (t : Table) (ms : List Meaning) (rs : List S.Rule) (os : List TypeOrigin) (x : Sources) : Type 0 where
+-- What is made by the table of terms t, the meanings of instances, the rules of the text, and the origins of a table's types, with
+-- what the terms of each rule are in an instance. The table u has all that t has by the same numbers, and what stands in the text has
+-- its numbers there.
+pub record IsMade (closed : S.Rule → Term → Term) (t : Table) (ms : List Meaning) (rs : List S.Rule) (os : List TypeOrigin) (x : TypesInText) : Type 0 where
   pub more : Table
   pub grows : Grows t more
   pub distinct : AreDistinct more.texts
@@ -49,16 +53,38 @@ pub record IsMade (t : Table) (ms : List Meaning) (rs : List S.Rule) (os : List 
   pub origins : x.origins.items ≡ os
   pub numbers : x.numbers.items ≡ map (name_number t.rows) ms
   pub rules : AreRules more rs x.rules.items
-  pub pieces : ArePieces more rs x.pieces.items
+  pub pieces : ArePieces closed more rs x.pieces.items
+
+-- the row of an instance's reference
+abbrev pub call_of : Meaning → ℕ
+call_of m = m.call
+
+-- What is kept to tell what the types are in an instance: the terms are those of this table, and the definitions and the references
+-- of the instances stand in it.
+pub record IsKept (more : Table) (ms : List Meaning) (rs : List S.Rule) (x : Sources) : Type 0 where
+  pub same_terms : more ≡ x.terms
+  pub unfilled : x.text.filled ≡ false
+  pub definitions : AreDefinitions x.terms x.definitions.items (definitions_in rs)
+  pub calls : x.calls.items ≡ map call_of ms
+
+-- what is made of the types as they are written, and what is kept
+pub record IsTold (t : Table) (ms : List Meaning) (rs : List S.Rule) (os : List TypeOrigin) (x : Sources) : Type 0 where
+  pub made : IsMade all_as_written t ms rs os x.text
+  pub kept : IsKept made.more ms rs x
+
+-- The numbers are of the types of a table that was made of nodes, which are of what the origins say.
+pub record AreTypesOf (closed : S.Rule → Term → Term) (s : Sense) (terms : Table) (nodes : Nodes) (x : TypesInText) : Type 0 where
+  pub meanings : List Meaning
+  pub are_nodes : AreNodes s terms nodes
+  pub are_meanings : (k : ℕ) (q : Ref) → slice_get s.refs k ≡ Some q → (m : Meaning) × (slice_get meanings k ≡ Some m) × IsRef terms m.call q
+  pub made : IsMade closed terms meanings (rules_of s.tree) nodes.type_origins.items x
 
 -- The places are of the types of this table, made of nodes that are of what the origins say.
 pub record AreSources (s : Sense) (table : Made) (x : Sources) : Type 0 where
   pub terms : Table
   pub nodes : Nodes
-  pub meanings : List Meaning
-  pub are_nodes : AreNodes s terms nodes
-  pub are_meanings : (k : ℕ) (q : Ref) → slice_get s.refs k ≡ Some q → (m : Meaning) × (slice_get meanings k ≡ Some m) × IsRef terms m.call q
-  pub made : IsMade terms meanings (rules_of s.tree) nodes.type_origins.items x
+  pub types : AreTypesOf all_as_written s terms nodes x.text
+  pub kept : IsKept types.made.more types.meanings (rules_of s.tree) x
   pub same_language : language_of table ≡ language_in nodes.types.items nodes.groups.items
   pub same_root : root_of table ≡ nodes.root
 

@@ -1,6 +1,8 @@
 -- What links have led to, by numbers.
 use Rattle.std.specs.Prelude.{◌≡◌, ◌↔◌, ℕ, ◌+◌, ◌<◌, ◌≤◌, nat_eq, if◌then◌else◌, Bool, true, false, List, [], ◌∷◌, ◌++◌, drop, Contains, Option, Some, None, slice_get}
 use Rattle.graphs.specs.declared.implications.Implication.{Implication}
+use Rattle.cddl_language.specs.Language.{TypeName, reference}
+use Rattle.cddl_language.specs.Terms.{Ref}
 use Rattle.check_terms.specs.declared.row.Row.{Row}
 use Rattle.check_instances.specs.declared.closed.closed.Meaning.{Meaning}
 use Rattle.table_making.specs.declared.origin.TypeOrigin.{TypeOrigin}
@@ -8,12 +10,13 @@ use Rattle.table_making.specs.declared.origin.TypeOrigin.TheVariants as T
 use Rattle.table_nodes.specs.declared.nodes.TypeId.{TypeId}
 use Rattle.type_links.specs.declared.link.Link.{Link}
 use Rattle.type_links.specs.declared.link.Link.TheVariants as L
+use Rattle.cddl_sources.specs.Places.{LeadsTo}
 use Rattle.cddl_sources.specs.declared.piece.EntryAt.{EntryAt}
 use Rattle.cddl_sources.specs.declared.piece.PieceAt.{PieceAt}
 use Rattle.cddl_sources.specs.declared.place.Place.{Place}
 use Rattle.cddl_sources.specs.declared.place.State.{State}
 use Rattle.cddl_sources.specs.declared.sources.RuleAt.{RuleAt}
-use Rattle.cddl_sources.specs.declared.sources.Sources.{Sources}
+use Rattle.cddl_sources.specs.declared.sources.TypesInText.{TypesInText}
 use Rattle.cddl_sources.specs.declared.span.Span.{Span}
 
 -- the number of the name of an instance, by the row of its reference
@@ -36,36 +39,36 @@ number_in ns (Some (T.Instance k)) = flattened (slice_get ns k)
 number_in ns _ = None
 
 -- what the type is of to which the link is
-abbrev pub origin_at : Sources → Link → Option TypeOrigin
+abbrev pub origin_at : TypesInText → Link → Option TypeOrigin
 origin_at x (L.Type m) = slice_get x.origins.items m.number
 origin_at x (L.Alternative k) = None
 origin_at x (L.Entry k) = None
 origin_at x (L.Key m) = None
 
-abbrev pub number_at : Sources → Link → Option ℕ
+abbrev pub number_at : TypesInText → Link → Option ℕ
 number_at x m = number_in x.numbers.items (origin_at x m)
 
 -- the rule at the place i has this number
-pub record HasNumber (x : Sources) (i n : ℕ) : Type 0 where
+pub record HasNumber (x : TypesInText) (i n : ℕ) : Type 0 where
   pub at : RuleAt
   pub there : slice_get x.rules.items i ≡ Some at
   pub same : at.number ≡ n
 
 -- the link is to an instance of no rule of the text
-abbrev pub HasNoRule : Sources → Link → Type 0
+abbrev pub HasNoRule : TypesInText → Link → Type 0
 HasNoRule x m = (n i : ℕ) → number_at x m ≡ Some n → HasNumber x i n → ⊥
 
 -- there is a rule at this place
-abbrev pub IsRuleIn : Sources → ℕ → Type 0
+abbrev pub IsRuleIn : TypesInText → ℕ → Type 0
 IsRuleIn x i = (a : RuleAt) × (slice_get x.rules.items i ≡ Some a)
 
 -- a place that is of this origin
-pub record IsOfOrigin (x : Sources) (o : TypeOrigin) (a : PieceAt) : Type 0 where
+pub record IsOfOrigin (x : TypesInText) (o : TypeOrigin) (a : PieceAt) : Type 0 where
   pub contained : Contains x.pieces.items a
   pub same : a.origin ≡ Some o
 
 -- a place that is the key of an entry, of this origin
-pub record IsKeyPlace (x : Sources) (o : TypeOrigin) (a : PieceAt) : Type 0 where
+pub record IsKeyPlace (x : TypesInText) (o : TypeOrigin) (a : PieceAt) : Type 0 where
   pub contained : Contains x.pieces.items a
   pub alone : a.origin ≡ None
   pub same : a.key ≡ Some o
@@ -75,12 +78,12 @@ abbrev pub IsInside : PieceAt → PieceAt → Type 0
 IsInside o a = (a.rule ≡ o.rule) × (o.span.first ≤ a.span.first) × (a.span.end ≤ o.span.end)
 
 -- it lies within what was found before, or in a rule with this number, if nothing was
-abbrev pub IsFrom : Sources → ℕ → Option PieceAt → PieceAt → Type 0
+abbrev pub IsFrom : TypesInText → ℕ → Option PieceAt → PieceAt → Type 0
 IsFrom x n None a = HasNumber x a.rule n
 IsFrom x n (Some o) a = IsInside o a
 
 -- it is of the type to which the link is
-pub record IsTypeIn (x : Sources) (n : ℕ) (from : Option PieceAt) (m : Link) (a : PieceAt) : Type 0 where
+pub record IsTypeIn (x : TypesInText) (n : ℕ) (from : Option PieceAt) (m : Link) (a : PieceAt) : Type 0 where
   pub origin : TypeOrigin
   pub there : origin_at x m ≡ Some origin
   pub is : IsOfOrigin x origin a
@@ -91,61 +94,61 @@ abbrev pub IsBetween : PieceAt → PieceAt → Type 0
 IsBetween o a = (a.rule ≡ o.rule) × (a.around ≡ Some o.span)
 
 -- its group is the body of a rule with this number
-abbrev pub IsInBody : Sources → ℕ → PieceAt → Type 0
+abbrev pub IsInBody : TypesInText → ℕ → PieceAt → Type 0
 IsInBody x n a = (a.around ≡ None) × HasNumber x a.rule n
 
 -- it is an entry without a key that is the name of this number
-pub record IsMember (x : Sources) (n : ℕ) (a : PieceAt) : Type 0 where
+pub record IsMember (x : TypesInText) (n : ℕ) (a : PieceAt) : Type 0 where
   pub contained : Contains x.pieces.items a
   pub alone : a.entry ≡ None
   pub name : a.name ≡ Some n
 
 -- The name of this number is that of a group whose entries are the map's.
-pub data IsSplicedIn (x : Sources) (map : PieceAt) : ℕ → Type 0 where
+pub data IsSplicedIn (x : TypesInText) (map : PieceAt) : ℕ → Type 0 where
   named_in_map : {n : ℕ} {a : PieceAt} → n < x.names → IsMember x n a → IsBetween map a → IsSplicedIn x map n
   named_in_group : {n m : ℕ} {a : PieceAt} → n < x.names → IsMember x n a → IsInBody x m a → IsSplicedIn x map m → IsSplicedIn x map n
 
 -- the key or the value is in an entry of the map
-pub data IsInMap (x : Sources) (map a : PieceAt) : Type 0 where
+pub data IsInMap (x : TypesInText) (map a : PieceAt) : Type 0 where
   in_its_brackets : IsBetween map a → IsInMap x map a
   in_its_group : {n : ℕ} → IsInBody x n a → IsSplicedIn x map n → IsInMap x map a
 
 -- the same, where what was found before is the map, or in a rule with this number, if nothing was
-abbrev pub IsInMapFrom : Sources → ℕ → Option PieceAt → PieceAt → Type 0
+abbrev pub IsInMapFrom : TypesInText → ℕ → Option PieceAt → PieceAt → Type 0
 IsInMapFrom x n None a = HasNumber x a.rule n
 IsInMapFrom x n (Some map) a = IsInMap x map a
 
 -- for each number whether it is that of such a name
-pub record AreSpliced (x : Sources) (map : PieceAt) (flags : List Bool) : Type 0 where
+pub record AreSpliced (x : TypesInText) (map : PieceAt) (flags : List Bool) : Type 0 where
   pub each : (n : ℕ) → (slice_get flags n ≡ Some true) ↔ IsSplicedIn x map n
 
-abbrev pub AreSplicedFrom : Sources → Option PieceAt → List Bool → Type 0
+abbrev pub AreSplicedFrom : TypesInText → Option PieceAt → List Bool → Type 0
 AreSplicedFrom x None flags = Unit {0}
 AreSplicedFrom x (Some map) flags = AreSpliced x map flags
 
 -- its group is the body of a rule whose number has a flag
-abbrev pub IsFlagged : Sources → List Bool → PieceAt → Type 0
+abbrev pub IsFlagged : TypesInText → List Bool → PieceAt → Type 0
 IsFlagged x flags a = (n : ℕ) × IsInBody x n a × (slice_get flags n ≡ Some true)
 
 -- What follows from one piece: the name of a member of the map is that of a group whose entries are its; and one of a member of a
 -- rule, if the name of the rule is.
-pub data IsStep (x : Sources) (map a : PieceAt) : Implication → Type 0 where
+pub data IsStep (x : TypesInText) (map a : PieceAt) : Implication → Type 0 where
   step_in_map : {n : ℕ} → IsMember x n a → IsBetween map a → IsStep x map a (record { then = n; first = None; second = None })
   step_in_group : {n m : ℕ} → IsMember x n a → IsInBody x m a → IsStep x map a (record { then = n; first = Some m; second = None })
 
-pub record AreSteps (x : Sources) (map : PieceAt) (steps : List Implication) : Type 0 where
+pub record AreSteps (x : TypesInText) (map : PieceAt) (steps : List Implication) : Type 0 where
   pub each : (i : Implication) → Contains steps i → (a : PieceAt) × IsStep x map a i
   pub all : (a : PieceAt) (i : Implication) → IsStep x map a i → Contains steps i
 
 -- it is the key of an entry and of this type
-pub record IsKeyIn (x : Sources) (n : ℕ) (from : Option PieceAt) (key : TypeId) (a : PieceAt) : Type 0 where
+pub record IsKeyIn (x : TypesInText) (n : ℕ) (from : Option PieceAt) (key : TypeId) (a : PieceAt) : Type 0 where
   pub origin : TypeOrigin
   pub there : origin_at x (L.Type key) ≡ Some origin
   pub is : IsKeyPlace x origin a
   pub inside : IsInMapFrom x n from a
 
 -- it is of the second type, the value of an entry whose key is of the first
-pub record IsValueIn (x : Sources) (n : ℕ) (from : Option PieceAt) (key m : Link) (a : PieceAt) : Type 0 where
+pub record IsValueIn (x : TypesInText) (n : ℕ) (from : Option PieceAt) (key m : Link) (a : PieceAt) : Type 0 where
   pub key_origin : TypeOrigin
   pub key_there : origin_at x key ≡ Some key_origin
   pub same : a.key ≡ Some key_origin
@@ -162,18 +165,18 @@ pub record IsPlacedIn (alternative place : ℕ) (e : Option EntryAt) : Type 0 wh
   pub same_place : entry.place ≡ place
 
 -- it is an entry in the rule at the place i, of the group with this round it
-pub record IsEntryThere (x : Sources) (i : ℕ) (around : Option Span) (alternative place : ℕ) (a : PieceAt) : Type 0 where
+pub record IsEntryThere (x : TypesInText) (i : ℕ) (around : Option Span) (alternative place : ℕ) (a : PieceAt) : Type 0 where
   pub contained : Contains x.pieces.items a
   pub rule : a.rule ≡ i
   pub round : a.around ≡ around
   pub is : IsPlacedIn alternative place a.entry
 
 -- it is an entry of the group in the brackets that are the ends of the other
-abbrev pub IsEntryWithin : Sources → PieceAt → (alternative place : ℕ) → PieceAt → Type 0
+abbrev pub IsEntryWithin : TypesInText → PieceAt → (alternative place : ℕ) → PieceAt → Type 0
 IsEntryWithin x around k i a = IsEntryThere x around.rule (Some around.span) k i a
 
 -- it is an entry of the rule at the place i
-abbrev pub IsEntryOfRule : Sources → ℕ → (own place : ℕ) → PieceAt → Type 0
+abbrev pub IsEntryOfRule : TypesInText → ℕ → (own place : ℕ) → PieceAt → Type 0
 IsEntryOfRule x i own place a = IsEntryThere x i None own place a
 
 -- How many alternatives a rule makes, if it has this number, and how many all rules with the number do.
@@ -190,12 +193,12 @@ counted n [] = 0
 counted n (r ∷ rs) = count_of n r + counted n rs
 
 -- The rule at the place i has an alternative with so many after it there, and so many after it in all rules with this number.
-pub record IsAlternative (x : Sources) (n alternative i own : ℕ) : Type 0 where
+pub record IsAlternative (x : TypesInText) (n alternative i own : ℕ) : Type 0 where
   pub less : own < count_in n (slice_get x.rules.items i)
   pub after : own + counted n (drop (i + 1) x.rules.items) ≡ alternative
 
 -- it is an entry of a rule of the name that the other is
-pub record IsEntryNamed (x : Sources) (around : PieceAt) (alternative place : ℕ) (a : PieceAt) : Type 0 where
+pub record IsEntryNamed (x : TypesInText) (around : PieceAt) (alternative place : ℕ) (a : PieceAt) : Type 0 where
   pub name : ℕ
   pub is_name : around.name ≡ Some name
   pub own : ℕ
@@ -203,26 +206,26 @@ pub record IsEntryNamed (x : Sources) (around : PieceAt) (alternative place : �
   pub is : IsEntryOfRule x a.rule own place a
 
 -- one or the other of what was found before
-pub data IsEntryOf (x : Sources) : Option PieceAt → (alternative place : ℕ) → PieceAt → Type 0 where
+pub data IsEntryOf (x : TypesInText) : Option PieceAt → (alternative place : ℕ) → PieceAt → Type 0 where
   within : {around : PieceAt} {k i : ℕ} {a : PieceAt} → IsEntryWithin x around k i a → IsEntryOf x (Some around) k i a
   named : {around : PieceAt} {k i : ℕ} {a : PieceAt} → IsEntryNamed x around k i a → IsEntryOf x (Some around) k i a
 
 -- two links lead to it together
-pub data ArePairIn (x : Sources) (n : ℕ) (from : Option PieceAt) : Link → Link → PieceAt → Type 0 where
+pub data ArePairIn (x : TypesInText) (n : ℕ) (from : Option PieceAt) : Link → Link → PieceAt → Type 0 where
   of_value : {key m : Link} {a : PieceAt} → IsValueIn x n from key m a → ArePairIn x n from key m a
   of_entry : {k i : ℕ} {a : PieceAt} → IsEntryOf x from k i a → ArePairIn x n from (L.Alternative k) (L.Entry i) a
 
 -- one link leads to it by itself
-pub data IsOneIn (x : Sources) (n : ℕ) (from : Option PieceAt) : Link → PieceAt → Type 0 where
+pub data IsOneIn (x : TypesInText) (n : ℕ) (from : Option PieceAt) : Link → PieceAt → Type 0 where
   of_type : {m : Link} {a : PieceAt} → IsTypeIn x n from m a → IsOneIn x n from m a
   of_key : {key : TypeId} {a : PieceAt} → IsKeyIn x n from key a → IsOneIn x n from (L.Key key) a
 
-abbrev pub AreNoPairIn : Sources → ℕ → Option PieceAt → Link → List Link → Type 0
+abbrev pub AreNoPairIn : TypesInText → ℕ → Option PieceAt → Link → List Link → Type 0
 AreNoPairIn x n from m [] = Unit {0}
 AreNoPairIn x n from m (v ∷ ms) = (a : PieceAt) → ArePairIn x n from m v a → ⊥
 
 -- Links lead from what was found before to what is found then.
-pub data LeadsIn (x : Sources) (n : ℕ) : Option PieceAt → List Link → Option PieceAt → Type 0 where
+pub data LeadsIn (x : TypesInText) (n : ℕ) : Option PieceAt → List Link → Option PieceAt → Type 0 where
   arrives : {from : Option PieceAt} → LeadsIn x n from [] from
   to_pair : {from to : Option PieceAt} {key m : Link} {ms : List Link} {a : PieceAt} → ArePairIn x n from key m a → LeadsIn x n (Some a) ms to → LeadsIn x n from (key ∷ m ∷ ms) to
   to_one : {from to : Option PieceAt} {m : Link} {ms : List Link} {a : PieceAt} → AreNoPairIn x n from m ms → IsOneIn x n from m a → LeadsIn x n (Some a) ms to → LeadsIn x n from (m ∷ ms) to
@@ -234,16 +237,16 @@ with_held None ms = ms
 with_held (Some m) ms = m ∷ ms
 
 -- Where the links lead to with others after them, what was found leads to by the held one and these.
-abbrev pub IsFoundAfter : Sources → State → List Link → Type 0
+abbrev pub IsFoundAfter : TypesInText → State → List Link → Type 0
 IsFoundAfter x st ids = (rest : List Link) (to : Option PieceAt) → LeadsIn x st.number st.found (with_held st.held rest) to → LeadsIn x st.number None (ids ++ rest) to
 
 -- Links that were passed over: none, or they begin with an instance.
-abbrev pub ArePassed : Sources → Bool → List Link → Type 0
+abbrev pub ArePassed : TypesInText → Bool → List Link → Type 0
 ArePassed x true ids = ids ≡ []
 ArePassed x false ids = (m : Link) × (ms : List Link) × (k : ℕ) × (ids ≡ m ∷ ms) × (origin_at x m ≡ Some (T.Instance k))
 
 -- The state is of the last of the links that is to an instance of a rule of the text, and of those after it up to the next instance.
-pub record IsStateAfter (x : Sources) (ids : List Link) (st : State) : Type 0 where
+pub record IsStateAfter (x : TypesInText) (ids : List Link) (st : State) : Type 0 where
   pub before : List Link
   pub instance : Link
   pub inside : List Link
@@ -255,26 +258,67 @@ pub record IsStateAfter (x : Sources) (ids : List Link) (st : State) : Type 0 wh
   pub passed : ArePassed x st.is_inside outside
   pub found : IsFoundAfter x st inside
 
-abbrev pub IsStateOf : Sources → List Link → Option State → Type 0
+abbrev pub IsStateOf : TypesInText → List Link → Option State → Type 0
 IsStateOf x ids None = (m : Link) → Contains ids m → HasNoRule x m
 IsStateOf x ids (Some st) = IsStateAfter x ids st
 
 -- The state after one link more in the rule.
-pub record IsNarrowed (x : Sources) (st : State) (m : Link) (new : State) : Type 0 where
+pub record IsNarrowed (x : TypesInText) (st : State) (m : Link) (new : State) : Type 0 where
   pub number : new.number ≡ st.number
   pub rule : new.rule ≡ st.rule
   pub inside : new.is_inside ≡ st.is_inside
   pub found : (ids : List Link) → IsFoundAfter x st ids → IsFoundAfter x new (ids ++ m ∷ [])
 
 -- the link begins with this state
-pub record IsStarted (x : Sources) (m : Link) (st : State) : Type 0 where
+pub record IsStarted (x : TypesInText) (m : Link) (st : State) : Type 0 where
   pub number : number_at x m ≡ Some st.number
   pub rule : HasNumber x st.rule st.number
   pub inside : st.is_inside ≡ true
   pub found : st.found ≡ None
   pub held : st.held ≡ None
 
+-- of what the piece is, or its key, where it is that in its place there
+
+abbrev pub or_else : Option TypeOrigin → Option TypeOrigin → Option TypeOrigin
+or_else (Some o) k = Some o
+or_else None k = k
+
+abbrev pub told_origin : PieceAt → Option TypeOrigin
+told_origin a = or_else a.origin a.key
+
+-- a place of this origin in a rule with another number
+pub record IsElsewhere (x : TypesInText) (n : ℕ) (o : TypeOrigin) (a : PieceAt) : Type 0 where
+  pub is : IsOfOrigin x o a
+  pub other : HasNumber x a.rule n → ⊥
+
+-- how the type of this origin is told that stands there
+pub data IsWrittenIn (x : TypesInText) (n : ℕ) (o : Option TypeOrigin) (s : Span) : Span → Type 0 where
+  in_another : {b : PieceAt} {u : TypeOrigin} → x.filled ≡ true → o ≡ Some u → IsElsewhere x n u b → IsWrittenIn x n o s b.span
+  as_it_is : (x.filled ≡ true → (b : PieceAt) (u : TypeOrigin) → o ≡ Some u → IsElsewhere x n u b → ⊥) → IsWrittenIn x n o s s
+
 -- What a state tells: what was found in the rules of its name, or else the body of the first of these.
-abbrev pub IsTold : Sources → State → Option PieceAt → Place → Type 0
-IsTold x st None p = (a : RuleAt) × (slice_get x.rules.items st.rule ≡ Some a) × (p.name ≡ a.name) × (p.types ≡ a.body)
-IsTold x st (Some f) p = (a : RuleAt) × (slice_get x.rules.items f.rule ≡ Some a) × (p.name ≡ a.name) × (p.types ≡ f.span)
+abbrev pub IsTold : TypesInText → State → Option PieceAt → Place → Type 0
+IsTold x st None p = (a : RuleAt) × (slice_get x.rules.items st.rule ≡ Some a) × (p.name ≡ a.name) × (p.types ≡ a.body) × (p.written ≡ a.body)
+IsTold x st (Some f) p = (a : RuleAt) × (slice_get x.rules.items f.rule ≡ Some a) × (p.name ≡ a.name) × (p.types ≡ f.span) × IsWrittenIn x st.number (told_origin f) f.span p.written
+
+-- the link is to an instance of a rule of the text
+abbrev pub HasRule : TypesInText → Link → Type 0
+HasRule x m = (n : ℕ) × (i : ℕ) × (number_at x m ≡ Some n) × HasNumber x i n
+
+-- The last of the links that is to an instance of a rule of the text is to this one.
+pub record IsLastAt (x : TypesInText) (chain : List Link) (k : ℕ) : Type 0 where
+  pub before : List Link
+  pub last : Link
+  pub others : List Link
+  pub split : chain ≡ before ++ last ∷ others
+  pub is : origin_at x last ≡ Some (T.Instance k)
+  pub has_rule : HasRule x last
+  pub none : (m : Link) → Contains others m → HasNoRule x m
+
+abbrev pub IsLastIn : TypesInText → List Link → Option ℕ → Type 0
+IsLastIn x chain None = (m : Link) → Contains chain m → HasNoRule x m
+IsLastIn x chain (Some k) = IsLastAt x chain k
+
+-- It is the reference of the last of the links that is to an instance of a rule of the text.
+abbrev pub IsOfLast : (TypeName → TypeId → Type 0) → Ref → TypesInText → List Link → Type 0
+IsOfLast names q x chain = (before : List Link) (m : Link) (others : List Link) → chain ≡ before ++ m ∷ others → HasRule x m → ((l : Link) → Contains others l → HasNoRule x l) → LeadsTo names (reference q) m

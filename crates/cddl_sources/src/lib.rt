@@ -4,6 +4,8 @@
 mod bare;
 mod copies;
 mod entries;
+mod filled;
+mod instances;
 mod names;
 mod node;
 mod origin;
@@ -14,6 +16,7 @@ mod sources;
 mod span;
 mod spliced;
 mod walk;
+mod written;
 
 pub use crate::place::Place;
 pub use crate::sources::{Sourced, Sources, compile_with_sources};

@@ -2,17 +2,21 @@
 
 ghost use Rattle.std.specs.Prelude.{◌≡◌, ◌↔◌, ℕ, ◌++◌, [], ◌∷◌, Contains, IfNone, IfOk, IfSome, IsTrue, List, None, Option, Some, false, slice_get};
 ghost use Rattle.cddl_language.specs.Reading.{rules_of};
+ghost use Rattle.cddl_language.specs.Terms.{Ref, Term};
+ghost use Rattle.check_terms.specs.Table.{Table as TermTable};
 ghost use Rattle.table_making.specs.Basis.{Sense};
 ghost use Rattle.table_making.specs.Nodes.{IsNameOfType};
-ghost use Rattle.table_nodes.specs.declared.table.Table.{Table};
+ghost use Rattle.table_making.specs.declared.making.Nodes.{Nodes};
+ghost use Rattle.tree_nodes.specs.Syntax.Syntax as S;
 ghost use Rattle.type_links.specs.declared.link.Link.{Link as ALink};
 ghost use Rattle.cddl_sources.specs.Places.{IsOfNoRule, IsPlace};
-ghost use Rattle.cddl_sources.specs.Sources.{AreSources};
-ghost use Rattle.cddl_sources.specs.States.{AreNoPairIn, ArePairIn, HasNoRule, HasNumber, AreSplicedFrom, IsAlternative, IsBetween, IsEntryNamed, IsEntryOf, IsEntryThere, IsFoundAfter, IsFrom, IsInside, IsKeyIn, IsKeyPlace, IsNarrowed, IsOfOrigin, IsOneIn, IsPlacedIn, IsRuleIn, IsStarted, IsStateAfter, IsStateOf, IsTold, IsTypeIn, IsInMapFrom, IsValueIn, LeadsIn, count_in, number_at, origin_at};
+ghost use Rattle.cddl_sources.specs.Instances.{has_arguments, term_in};
+ghost use Rattle.cddl_sources.specs.Sources.{AreTypesOf};
+ghost use Rattle.cddl_sources.specs.States.{AreNoPairIn, ArePairIn, HasNoRule, HasNumber, AreSplicedFrom, IsAlternative, IsBetween, IsEntryNamed, IsEntryOf, IsEntryThere, IsFoundAfter, IsFrom, IsInside, IsKeyIn, IsKeyPlace, IsNarrowed, IsOfLast, IsOfOrigin, IsOneIn, IsPlacedIn, IsRuleIn, IsStarted, IsStateAfter, IsStateOf, IsTold, IsTypeIn, IsInMapFrom, IsValueIn, LeadsIn, count_in, flattened, number_at, origin_at};
 ghost use Rattle.cddl_sources.specs.declared.piece.PieceAt.{PieceAt as Piece};
 
 use crate::piece::{EntryAt, PieceAt};
-use crate::sources::Sources;
+use crate::sources::TypesInText;
 use crate::span::Span;
 use std::alloc::{AllocError, Global};
 use table_making::TypeOrigin;
@@ -24,10 +28,12 @@ use type_links::Link;
 pub struct Place {
     /// The name of the rule, where it is defined: what stands between the offsets is the name.
     pub name: Span,
-    /// The type, without parentheses round all of it. Where none of the types that led to it stands in the rule as it is written
-    /// there, it is all that the rule has after its sign: so in an instance of a generic rule, where an argument is in the place of
-    /// a parameter.
+    /// The type, without parentheses round all of it. Where none of the types that led to it stands in the rule, it is all that the
+    /// rule has after its sign.
     pub types: Span,
+    /// How the type is written. In an instance with arguments that is how it is written in a rule of another name, if it is, so that an
+    /// argument is told and not the parameter in whose place it is; else it is what stands there.
+    pub written: Span,
 }
 
 // An alternative of a rule as a group, with so many after it there.
@@ -54,26 +60,11 @@ pub(crate) struct State {
     pub(crate) held: Option<Link>,
 }
 
-impl Sources {
-    /// Where the last of the types to which these links lead stands in the text, of those that do. Each leads on from the one before,
-    /// the first to the root.
-    ///
-    /// The rule is the one of which the last is an instance that is an instance of a rule of the text, so a name of the prelude
-    /// stands where it is asked for. From there on each type narrows it: to the first place in the rules of that name that is of
-    /// this type, within the place of the one found before. Where the key of an entry comes right before the type of its value, it
-    /// is that entry's, in the map whose place was found before, and not of one within it: it stands in the map, or in a rule to
-    /// which names lead that are entries there. So does the key to which a link of its own leads. An alternative of a group and an entry of it lead to this entry, where the place
-    /// found before is that of the array or of the parentheses round the group, or is a name that is an entry by itself: then it
-    /// stands in the rules of that name. Nothing is told where none is an instance of a rule of the text.
-    ///
-    /// It takes time in proportion to the types and the entries in the text for each of these.
-    ///
-    /// # Errors
-    ///
-    /// `AllocError` where memory was refused.
-    pub fn place(&self, alloc: Global, chain: &[Link]) -> Result<Option<Place>, AllocError>
-        ensures some { IfOk result (λ o. IfSome o (λ p. (s : Sense) (table : Table) (known : AreSources s table self.now) → IsPlace (rules_of s.tree) (IsNameOfType s known.terms known.nodes) chain.now p)) }
-        ensures none { IfOk result (λ o. IfNone o ((s : Sense) (table : Table) (known : AreSources s table self.now) → (m : ALink) → Contains chain.now m → IsOfNoRule (rules_of s.tree) (IsNameOfType s known.terms known.nodes) m)) }
+impl TypesInText {
+    // Where the last of the types to which these links lead stands in the text, of those that do.
+    pub(crate) fn place(&self, alloc: Global, chain: &[Link]) -> Result<Option<Place>, AllocError>
+        ensures some { IfOk result (λ o. IfSome o (λ p. (s : Sense) (terms : TermTable) (nodes : Nodes) (q : Ref) → AreTypesOf (term_in q) s terms nodes self.now → IsOfLast (IsNameOfType s terms nodes) q self.now chain.now → self.now.filled ≡ has_arguments q → IsPlace (rules_of s.tree) (IsNameOfType s terms nodes) chain.now p)) }
+        ensures none { IfOk result (λ o. IfNone o ((s : Sense) (terms : TermTable) (nodes : Nodes) (closed : S.Rule → Term → Term) → AreTypesOf closed s terms nodes self.now → (m : ALink) → Contains chain.now m → IsOfNoRule (rules_of s.tree) (IsNameOfType s terms nodes) m)) }
     {
         let mut state = None;
         for link in chain {
@@ -85,8 +76,8 @@ impl Sources {
 
     // The place that the last state tells, if there is one.
     fn told_last(&self, alloc: Global, state: Option<State>) -> Result<Option<Place>, AllocError>
-        ensures some { IfOk result (λ o. IfSome o (λ p. (chain : List ALink) (s : Sense) (table : Table) (known : AreSources s table self.now) → IsStateOf self.now chain state → IsPlace (rules_of s.tree) (IsNameOfType s known.terms known.nodes) chain p)) }
-        ensures none { IfOk result (λ o. IfNone o ((chain : List ALink) (s : Sense) (table : Table) (known : AreSources s table self.now) → IsStateOf self.now chain state → (m : ALink) → Contains chain m → IsOfNoRule (rules_of s.tree) (IsNameOfType s known.terms known.nodes) m)) }
+        ensures some { IfOk result (λ o. IfSome o (λ p. (chain : List ALink) (s : Sense) (terms : TermTable) (nodes : Nodes) (q : Ref) → AreTypesOf (term_in q) s terms nodes self.now → IsOfLast (IsNameOfType s terms nodes) q self.now chain → self.now.filled ≡ has_arguments q → IsStateOf self.now chain state → IsPlace (rules_of s.tree) (IsNameOfType s terms nodes) chain p)) }
+        ensures none { IfOk result (λ o. IfNone o ((chain : List ALink) (s : Sense) (terms : TermTable) (nodes : Nodes) (closed : S.Rule → Term → Term) → AreTypesOf closed s terms nodes self.now → IsStateOf self.now chain state → (m : ALink) → Contains chain m → IsOfNoRule (rules_of s.tree) (IsNameOfType s terms nodes) m)) }
     {
         match state {
             Some(state) => {
@@ -108,6 +99,7 @@ impl Sources {
                 Some(Place {
                     name: rule.name,
                     types: piece.span,
+                    written: self.written(state.number, piece),
                 })
             }
             None => {
@@ -115,6 +107,7 @@ impl Sources {
                 Some(Place {
                     name: rule.name,
                     types: rule.body,
+                    written: rule.body,
                 })
             }
         }
@@ -142,7 +135,7 @@ impl Sources {
     }
 
     // Where a rule of the text begins.
-    fn started(&self, link: Link) -> Option<State>
+    pub(crate) fn started(&self, link: Link) -> Option<State>
         ensures some { IfSome result (IsStarted self.now link) }
         ensures none { IfNone result (HasNoRule self.now link) }
     {
@@ -162,13 +155,20 @@ impl Sources {
         ensures { result ≡ number_at self.now link }
     {
         match self.origin_of(link) {
-            Some(TypeOrigin::Instance(place)) => *self.numbers.get(place as usize)?,
+            Some(TypeOrigin::Instance(place)) => self.instance_name(place),
             _ => None,
         }
     }
 
+    // The number of the name of the instance at this place.
+    pub(crate) fn instance_name(&self, place: u32) -> Option<u32>
+        ensures { result ≡ flattened (slice_get self.now.numbers.items place) }
+    {
+        *self.numbers.get(place as usize)?
+    }
+
     // What the type is of to which the link is.
-    fn origin_of(&self, link: Link) -> Option<TypeOrigin>
+    pub(crate) fn origin_of(&self, link: Link) -> Option<TypeOrigin>
         ensures { result ≡ origin_at self.now link }
     {
         match link {
@@ -570,7 +570,7 @@ impl Sources {
     }
 
     // Whether the rule at this place has this number.
-    fn is_named(&self, rule: usize, number: u32) -> bool
+    pub(crate) fn is_named(&self, rule: usize, number: u32) -> bool
         ensures { IsTrue result ↔ HasNumber self.now rule number }
     {
         match self.rules.get(rule) {
@@ -604,7 +604,7 @@ fn is_round(piece: PieceAt, around: Option<Span>) -> bool
 }
 
 // Whether it is of this.
-fn is_of(piece: PieceAt, origin: TypeOrigin) -> bool
+pub(crate) fn is_of(piece: PieceAt, origin: TypeOrigin) -> bool
     ensures { IsTrue result ↔ (piece.origin ≡ Some origin) }
 {
     match piece.origin {

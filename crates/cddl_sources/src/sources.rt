@@ -8,9 +8,10 @@ ghost use Rattle.tree_nodes.specs.View.{token_of, view, view_group, view_grpent,
 ghost use Rattle.tree_nodes.specs.declared.tree.Leaf.{Leaf};
 ghost use Rattle.cddl_table.specs.Ranks.{LeavesNoRankOut};
 ghost use Rattle.cddl_table.specs.Text.{IsTableOf};
+ghost use Rattle.cddl_sources.specs.Instances.{all_as_written};
 ghost use Rattle.cddl_sources.specs.Origins.{ArePieces};
 ghost use Rattle.cddl_sources.specs.Pieces.{alternatives_of, count_of, own_count};
-ghost use Rattle.cddl_sources.specs.Sources.{AreRules, AreSourcesOf, IsMade, IsRuleAt};
+ghost use Rattle.cddl_sources.specs.Sources.{AreRules, AreSourcesOf, IsRuleAt, IsTold, call_of};
 ghost use Rattle.cddl_sources.specs.States.{name_number};
 
 use crate::copies::copy_of;
@@ -22,8 +23,9 @@ use cddl_check::{Findings, Spec};
 use cddl_table::{Traced, compile_with_origins};
 use check_instances::closed::Meaning;
 use check_instances::closed::laws::meaning_at;
+use check_reading::reader::read;
 use check_terms::laws::{equal_numbers, growing_keeps};
-use check_terms::{NoRoom, Terms};
+use check_terms::{Definition, NoRoom, Terms, push};
 use std::alloc::{AllocError, Global};
 use table_making::TypeOrigin;
 use table_nodes::Table;
@@ -42,7 +44,20 @@ pub(crate) struct RuleAt {
 
 /// Where the types of a table stand in the text of its specification, by their numbers.
 #[derive(Drop)]
-pub struct Sources {
+pub struct Sources<'s> {
+    // The terms of the specification, and those of its text that none of its instances has.
+    pub(crate) terms: Terms<'s>,
+    // The definitions that the rules are, in their order.
+    pub(crate) definitions: Vec<Definition>,
+    // The row of the reference of each instance.
+    pub(crate) calls: Vec<u32>,
+    // The types as they are written.
+    pub(crate) text: TypesInText,
+}
+
+// What is known of the types that stand in the text.
+#[derive(Drop)]
+pub(crate) struct TypesInText {
     // What each type is of.
     pub(crate) origins: Vec<TypeOrigin>,
     // The number of the name of each instance.
@@ -51,26 +66,28 @@ pub struct Sources {
     pub(crate) names: usize,
     pub(crate) rules: Vec<RuleAt>,
     pub(crate) pieces: Vec<PieceAt>,
+    // Whether arguments are in the place of parameters.
+    pub(crate) filled: bool,
 }
 
 /// A table, and where its types stand in the text.
 #[derive(Drop)]
-pub struct Sourced {
+pub struct Sourced<'s> {
     /// The table.
     pub table: Table,
     /// The places of its types.
-    pub sources: Sources,
+    pub sources: Sources<'s>,
 }
 
 /// The table of a specification, as `cddl_table::compile` makes it, and where its types stand in the text.
 ///
-/// It takes what `compile` takes, and then a copy of the table of terms, and a time in proportion to the nodes of the tree, each
-/// read once for each bracket in which it stands, of which the parser has 128 at most.
+/// It takes what `compile` takes, and then a copy of the table of terms, which stays, and a time in proportion to the nodes of the
+/// tree, each read once for each bracket in which it stands, of which the parser has 128 at most.
 ///
 /// # Errors
 ///
 /// Memory was refused, or a number does not fit.
-pub fn compile_with_sources(alloc: Global, spec: &Spec<'_>) -> Result<Sourced, AllocError>
+pub fn compile_with_sources<'s>(alloc: Global, spec: &Spec<'s>) -> Result<Sourced<'s>, AllocError>
     ensures stands { IfOk result (λ x. IsTableOf spec.now x.table) }
     ensures ranks { IfOk result (λ x. LeavesNoRankOut x.table) }
     ensures sources { IfOk result (λ x. AreSourcesOf spec.now x.table x.sources) }
@@ -91,20 +108,31 @@ fn sources_of<'s>(
     findings: &Findings<'s>,
     tree: &Tree<'s>,
     origins: Vec<TypeOrigin>,
-) -> Result<Sources, NoRoom>
-    ensures { IfOk result (λ x. IsMade findings.now.terms findings.now.meant.closed.meanings.items (rules_of (view tree.now)) origins.items x) }
+) -> Result<Sources<'s>, NoRoom>
+    ensures { IfOk result (λ x. IsTold findings.now.terms findings.now.meant.closed.meanings.items (rules_of (view tree.now)) origins.items x) }
 {
-    let mut copy = copy_of(alloc, &findings.terms)?;
-    let rules = rules_at(alloc, &mut copy, tree)?;
-    let pieces = text_pieces(alloc, &mut copy, tree)?;
-    let numbers = numbers_of(alloc, &findings.terms, &findings.meant.closed.meanings)?;
-    equal_numbers(&copy);
-    Ok(Sources {
+    let meanings = &findings.meant.closed.meanings;
+    let numbers = numbers_of(alloc, &findings.terms, meanings)?;
+    let calls = calls_of(alloc, meanings)?;
+    let mut terms = copy_of(alloc, &findings.terms)?;
+    let definitions = read(alloc, &mut terms, tree)?;
+    let rules = rules_at(alloc, &mut terms, tree)?;
+    let pieces = text_pieces(alloc, &mut terms, tree)?;
+    equal_numbers(&terms);
+    growing_keeps();
+    let text = TypesInText {
         origins,
         numbers,
-        names: copy.text_count(),
+        names: terms.text_count(),
         rules,
         pieces,
+        filled: false,
+    };
+    Ok(Sources {
+        terms,
+        definitions,
+        calls,
+        text,
     })
 }
 
@@ -115,13 +143,24 @@ fn text_pieces<'s>(
     tree: &Tree<'s>,
 ) -> Result<Vec<PieceAt>, NoRoom>
     ensures grows { Grows terms.old terms.new }
-    ensures pieces { IfOk result (λ v. ArePieces terms.new (rules_of (view tree.now)) v.items) }
+    ensures pieces { IfOk result (λ v. ArePieces all_as_written terms.new (rules_of (view tree.now)) v.items) }
 {
     growing_keeps();
     let Ok(found) = nodes(alloc, tree) else {
         return Err(NoRoom);
     };
     pieces_of(alloc, terms, tree, &found)
+}
+
+// The row of the reference of each of these instances.
+fn calls_of(alloc: Global, meanings: &[Meaning]) -> Result<Vec<u32>, NoRoom>
+    ensures { IfOk result (λ v. v.items ≡ map call_of meanings.now) }
+{
+    let mut calls = Vec::new(alloc);
+    for meaning in meanings {
+        push(&mut calls, meaning.call)?;
+    }
+    Ok(calls)
 }
 
 // The number of the name of each of these instances.

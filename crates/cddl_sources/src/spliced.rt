@@ -6,11 +6,11 @@ ghost use Rattle.cddl_sources.specs.States.{AreSpliced, AreSplicedFrom, AreSteps
 
 use crate::piece::PieceAt;
 use crate::place::is_between;
-use crate::sources::Sources;
+use crate::sources::TypesInText;
 use graphs::implications::{Implication, following};
 use std::alloc::{AllocError, Global};
 
-impl Sources {
+impl TypesInText {
     // For each number whether it is that of the name of such a group, where what was found before is the map.
     pub(crate) fn spliced_from(
         &self,

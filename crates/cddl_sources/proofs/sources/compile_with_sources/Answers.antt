@@ -3,7 +3,7 @@ use Rattle.tree_nodes.specs.View.{view}
 use Rattle.tree_nodes.specs.declared.tree.Tree.{Tree}
 use Rattle.cddl_language.specs.Reading.{rules_of}
 use Rattle.table_making.specs.declared.origin.TypeOrigin.{TypeOrigin}
-use Rattle.cddl_sources.specs.Sources.{IsMade}
+use Rattle.cddl_sources.specs.Sources.{IsTold}
 use Rattle.cddl_sources.proofs.sources.compile_with_sources.Goals as goal
 
 pub compile_with_origins-requires : goal.compile_with_origins-requires
@@ -17,16 +17,20 @@ returns-in-Ok-clause-sources c = λ worth right.
     let f = c.findings-findings.result.now in
     let t = c.in_ok-traced.ensures.traced c.args.spec.now.tree c.args.spec.now.root c.findings-findings.ensures worth right in
     let o = t.2 in
-    let made = subst (λ (tree : Tree). IsMade f.terms f.meant.closed.meanings.items (rules_of (view tree)) c.in_ok-traced.traced.origins.items c.in-Ok.sources) c.tree.ensures c.in-Ok.ensures in (
+    let told = subst (λ (tree : Tree). IsTold f.terms f.meant.closed.meanings.items (rules_of (view tree)) c.in_ok-traced.traced.origins.items c.in-Ok.sources) c.tree.ensures c.in-Ok.ensures in
+    let all = subst (λ (os : List TypeOrigin). IsTold f.terms f.meant.closed.meanings.items (rules_of (view c.args.spec.now.tree)) os c.in-Ok.sources) o.same_origins told in (
       t.0,
       t.1.meant.closed.instances,
       record {
         terms = f.terms;
         nodes = o.nodes;
-        meanings = f.meant.closed.meanings.items;
-        are_nodes = o.are_nodes;
-        are_meanings = λ k q e. let m = c.meaning_at.ensures _ _ t.0 f.terms f.meant.closed k q t.1.meant.closed e in (m.0, m.1, m.2.ref);
-        made = subst (λ (os : List TypeOrigin). IsMade f.terms f.meant.closed.meanings.items (rules_of (view c.args.spec.now.tree)) os c.in-Ok.sources) o.same_origins made;
+        types = record {
+          meanings = f.meant.closed.meanings.items;
+          are_nodes = o.are_nodes;
+          are_meanings = λ k q e. let m = c.meaning_at.ensures _ _ t.0 f.terms f.meant.closed k q t.1.meant.closed e in (m.0, m.1, m.2.ref);
+          made = all.made;
+        };
+        kept = all.kept;
         same_language = o.same_language;
         same_root = o.same_root;
       },

@@ -1,25 +1,11 @@
-use Rattle.std.proofs.Common.{List, subst}
-use Rattle.std.proofs.lemmas.List.{take_all}
-use Rattle.lists.proofs.Lemmas.{none_in}
-use Rattle.type_links.specs.declared.link.Link.{Link}
-use Rattle.cddl_sources.specs.States.{IsStateOf}
-use Rattle.cddl_sources.proofs.Stepping.{at_index, next_state, none_then, ok_then, some_then}
+use Rattle.std.proofs.Common.{Option, ℕ, subst}
+use Rattle.cddl_sources.specs.Instances.{all_as_written}
+use Rattle.cddl_sources.specs.States.{IsLastIn}
+use Rattle.cddl_sources.proofs.Standing.{no_rule}
 use Rattle.cddl_sources.proofs.sources.Sources.place.Goals as goal
 
-pub loop-link-init : goal.loop-link-init
-loop-link-init c = λ m h. absurd (none_in m h)
+pub place_in-requires : goal.place_in-requires
+place_in-requires c = subst (IsLastIn c.args.self.now.text c.args.chain.now) c.in-Some.is c.last_instance.ensures
 
-pub loop-link-preserved : goal.loop-link-preserved
-loop-link-preserved c =
-    next_state c.args.self.now c.args.chain.now c.loop-link.link-index c.loop-link.state c.in_ok-new.new _ c.loop-link-test.true c.loop-link.invariant c.in_ok-new.ensures
-    (at_index c.args.chain.now c.loop-link.link-index _ c.loop-link-test.true)
-
-pub returns-clause-some : goal.returns-clause-some
-returns-clause-some c =
-    let all = subst (λ (ids : List Link). IsStateOf c.args.self.now ids c.loop-link.state) (take_all c.loop-link.link-index c.args.chain.now c.loop-link-test.false) c.loop-link.invariant in
-    ok_then c.told_last.result _ _ (λ o g. some_then o _ _ (λ p f s table known. f c.args.chain.now s table known all) g) c.told_last.ensures.some
-
-pub returns-clause-none : goal.returns-clause-none
-returns-clause-none c =
-    let all = subst (λ (ids : List Link). IsStateOf c.args.self.now ids c.loop-link.state) (take_all c.loop-link.link-index c.args.chain.now c.loop-link-test.false) c.loop-link.invariant in
-    ok_then c.told_last.result _ _ (λ o g. none_then o _ _ (λ f s table known. f c.args.chain.now s table known all) g) c.told_last.ensures.none
+pub returns-in-None-clause-none : goal.returns-in-None-clause-none
+returns-in-None-clause-none c = λ s table known m h. no_rule s known.terms known.nodes c.args.self.now.text all_as_written known.types m (subst (IsLastIn c.args.self.now.text c.args.chain.now) c.in-None.is c.last_instance.ensures m h)
