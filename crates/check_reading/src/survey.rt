@@ -1,6 +1,7 @@
 //! What is read of a specification's text once: its definitions by numbers, where those of each name stand, kinds, where rules
-//! begin, and sites.
+//! and their parameters begin, and sites.
 pub mod laws;
+mod parameters;
 mod starts;
 mod survey;
 

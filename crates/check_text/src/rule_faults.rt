@@ -5,7 +5,7 @@ mod kinds;
 mod root;
 mod start;
 
-pub(crate) use crate::rule_faults::arity::arity_at;
+pub(crate) use crate::rule_faults::arity::other_count;
 pub use crate::rule_faults::arity::wrong_arity;
 pub use crate::rule_faults::duplicates::duplicate;
 pub(crate) use crate::rule_faults::duplicates::{add_number, other_equals, start_again};

@@ -9,6 +9,7 @@ ghost use Rattle.cddl_language.specs.Literals.{Values};
 ghost use Rattle.lists.specs.Least.{IsLeast};
 ghost use Rattle.check_reading.specs.Survey.Survey.{IsSurvey};
 ghost use Rattle.tree_nodes.specs.View.{view};
+ghost use Rattle.tree_nodes.specs.declared.tree.Tree.{Tree as Trees};
 
 use crate::fault::{Fault, fault_of, first_of};
 use crate::rule_faults::{bad_root, duplicate, kind_clash, no_root};
@@ -34,9 +35,9 @@ pub fn text_fault(
 ) -> Result<Option<Fault>, AllocError>
     ensures { IfOk result (λ o. (s : Specification) (worth : Values) → s.tree ≡ view tree.now → s.given ≡ option_map (λ t. t.now) given.entry → IsSurvey terms.now tree.now survey.now → IsFirst (IsFaultAt s worth) text_codes o) }
 {
-    let rules = rule_fault(alloc, terms, tree, survey)?;
+    let rules = rule_fault(alloc, terms, survey)?;
     let names = name_fault(alloc, terms, tree, survey)?;
-    let root = root_fault(terms, tree, survey, given);
+    let root = root_fault(terms, survey, given);
     let types = type_fault(alloc, terms, tree, survey)?;
     Ok(first_of(rules, first_of(names, first_of(root, types))))
 }
@@ -45,13 +46,12 @@ pub fn text_fault(
 fn rule_fault(
     alloc: Global,
     terms: &Terms<'_>,
-    tree: &Tree<'_>,
     survey: &Survey<'_>,
 ) -> Result<Option<Fault>, AllocError>
-    ensures { IfOk result (λ o. (s : Specification) (worth : Values) → s.tree ≡ view tree.now → IsSurvey terms.now tree.now survey.now → IsFirst (IsFaultAt s worth) (Duplicate ∷ KindClash ∷ []) o) }
+    ensures { IfOk result (λ o. (s : Specification) (worth : Values) (tree : Trees) → s.tree ≡ view tree → IsSurvey terms.now tree survey.now → IsFirst (IsFaultAt s worth) (Duplicate ∷ KindClash ∷ []) o) }
 {
-    let twice = fault_of(Code::Duplicate, duplicate(alloc, terms, tree, survey)?);
-    let clash = fault_of(Code::KindClash, kind_clash(terms, tree, survey));
+    let twice = fault_of(Code::Duplicate, duplicate(alloc, terms, survey)?);
+    let clash = fault_of(Code::KindClash, kind_clash(terms, survey));
     Ok(first_of(twice, clash))
 }
 
@@ -64,7 +64,7 @@ fn wrong_arity(
 ) -> Result<Option<usize>, AllocError>
     ensures { IfOk result (λ o. (s : Specification) → s.tree ≡ view tree.now → IsSurvey terms.now tree.now survey.now → IsLeast (HasWrongArity s) o) }
 {
-    let at_rules = crate::rule_faults::wrong_arity(terms, tree, survey);
+    let at_rules = crate::rule_faults::wrong_arity(terms, survey);
     let at_names = crate::site_faults::wrong_arity(alloc, terms, tree, survey)?;
     Ok(lesser(at_rules, at_names))
 }
@@ -84,16 +84,11 @@ fn name_fault(
 }
 
 // The first fault of C5 and C6: of the root.
-fn root_fault(
-    terms: &Terms<'_>,
-    tree: &Tree<'_>,
-    survey: &Survey<'_>,
-    given: Option<&str>,
-) -> Option<Fault>
-    ensures { (s : Specification) (worth : Values) → s.tree ≡ view tree.now → s.given ≡ option_map (λ t. t.now) given.entry → IsSurvey terms.now tree.now survey.now → IsFirst (IsFaultAt s worth) (NoRoot ∷ BadRoot ∷ []) result }
+fn root_fault(terms: &Terms<'_>, survey: &Survey<'_>, given: Option<&str>) -> Option<Fault>
+    ensures { (s : Specification) (worth : Values) (tree : Trees) → s.tree ≡ view tree → s.given ≡ option_map (λ t. t.now) given.entry → IsSurvey terms.now tree survey.now → IsFirst (IsFaultAt s worth) (NoRoot ∷ BadRoot ∷ []) result }
 {
-    let none = fault_of(Code::NoRoot, no_root(terms, tree, survey, given));
-    let bad = fault_of(Code::BadRoot, bad_root(terms, tree, survey, given));
+    let none = fault_of(Code::NoRoot, no_root(terms, survey, given));
+    let bad = fault_of(Code::BadRoot, bad_root(terms, survey, given));
     first_of(none, bad)
 }
 

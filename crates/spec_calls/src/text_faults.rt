@@ -19,7 +19,7 @@ fn searched(
     code: &str,
 ) -> Option<Option<usize>> {
     match code {
-        "duplicate" => duplicate(alloc, terms, tree, survey).ok(),
+        "duplicate" => duplicate(alloc, terms, survey).ok(),
         "undefined" => undefined(alloc, terms, tree, survey).ok(),
         "wrong_arity" => wrong_arity(alloc, terms, tree, survey).ok(),
         "group_as_type" => group_as_type(alloc, terms, tree, survey).ok(),
@@ -30,11 +30,11 @@ fn searched(
 // The least offset of a fault of roots or of another code.
 fn offset(terms: &Terms<'_>, tree: &Tree<'_>, survey: &Survey<'_>, code: &str) -> Option<usize> {
     match code {
-        "no_root" => no_root(terms, tree, survey, None),
-        "no_root:x" => no_root(terms, tree, survey, Some("x")),
+        "no_root" => no_root(terms, survey, None),
+        "no_root:x" => no_root(terms, survey, Some("x")),
         "root_of:x" => root_of(terms, survey, Some("x")).map(|_| 1),
-        "bad_root" => bad_root(terms, tree, survey, None),
-        "bad_root:x" => bad_root(terms, tree, survey, Some("x")),
+        "bad_root" => bad_root(terms, survey, None),
+        "bad_root:x" => bad_root(terms, survey, Some("x")),
         _ => offset_at_rule_or_site(terms, tree, survey, code),
     }
 }
@@ -46,8 +46,8 @@ fn offset_at_rule_or_site(
     code: &str,
 ) -> Option<usize> {
     match code {
-        "kind_clash" => kind_clash(terms, tree, survey),
-        "arity_of_rule" => wrong_arity_of_rule(terms, tree, survey),
+        "kind_clash" => kind_clash(terms, survey),
+        "arity_of_rule" => wrong_arity_of_rule(terms, survey),
         "bad_hash" => bad_hash(tree, survey),
         _ => unknown_control(tree, survey),
     }

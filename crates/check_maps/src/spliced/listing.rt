@@ -43,8 +43,8 @@ pub struct Spliced {
 /// The entries that are spliced into a map that the root reaches (RFC 8610 sections 3.5 and 3.7): its own, and those of each
 /// group that one of them names or opens.
 ///
-/// The questions are those of [`check_reached::entry_questions`], and the endings those of [`check_instances::openings::endings_of`]. It takes
-/// a time in proportion to them. An error comes only where memory is refused.
+/// The questions are those of [`check_reached::entry_questions`], and the endings those of
+/// [`check_instances::openings::endings_of`]. It takes a time in proportion to them. An error comes only where memory is refused.
 pub fn spliced_entries(
     alloc: Global,
     terms: &Terms<'_>,

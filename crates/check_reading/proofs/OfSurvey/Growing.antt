@@ -21,6 +21,7 @@ grown old new tree v same table is keeps = record {
   names_stand = λ k n u e f. is.names_stand k n u (ap (λ (ts : List Text). slice_get ts k) (sym same) ∙ e) f;
   kinds_found = subst (λ (ts : List Text). AreKinds ts (defined_in tree) v.kinds) (sym same) is.kinds_found;
   starts_found = is.starts_found;
+  parameters_found = is.parameters_found;
   sites_found = is.sites_found;
   outer_found = is.outer_found;
 }

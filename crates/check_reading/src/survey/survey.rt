@@ -1,11 +1,12 @@
-//! A survey of a tree: its definitions and the prelude's, where those of each name stand, the kinds of names, where rules begin,
-//! and all sites.
+//! A survey of a tree: its definitions and the prelude's, where those of each name stand, the kinds of names, where rules and
+//! their parameters begin, and all sites.
 ghost use Rattle.std.specs.Prelude.{IfOk};
 ghost use Rattle.check_reading.specs.Survey.Survey.{IsSurvey};
 ghost use Rattle.check_terms.specs.Table.{Grows};
 
 use crate::prelude::add_prelude;
 use crate::reader::read;
+use crate::survey::parameters::all_parameters;
 use crate::survey::starts::starts_of;
 use check_names::environment::laws::names_stand;
 use check_names::environment::{Name, names};
@@ -29,12 +30,14 @@ pub struct Survey<'t> {
     pub kinds: Kinds,
     /// The offset in bytes of the name that each rule defines.
     pub starts: Vec<usize>,
+    /// The offsets in bytes of the parameters of each rule.
+    pub parameters: Vec<Vec<usize>>,
     /// All sites, rule by rule.
     pub sites: Vec<Found<'t>>,
 }
 
-/// Reads the prelude and the rules of the tree, and finds where names are defined, of what kind they are, where rules begin,
-/// and all sites.
+/// Reads the prelude and the rules of the tree, and finds where names are defined, of what kind they are, where rules and their
+/// parameters begin, and all sites.
 ///
 /// It takes a time of n log n for a tree of n nodes. The table keeps what it has, also after an error, which comes only where
 /// memory is refused or each number of 32 bits is taken.
@@ -61,6 +64,9 @@ pub fn survey_of<'s, 't>(
     let Ok(starts) = starts_of(alloc, tree) else {
         return Err(NoRoom);
     };
+    let Ok(parameters) = all_parameters(alloc, tree) else {
+        return Err(NoRoom);
+    };
     let Ok(sites) = sites(alloc, tree) else {
         return Err(NoRoom);
     };
@@ -70,6 +76,7 @@ pub fn survey_of<'s, 't>(
         names,
         kinds,
         starts,
+        parameters,
         sites,
     })
 }

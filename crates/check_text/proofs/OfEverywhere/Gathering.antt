@@ -2,13 +2,10 @@
 use Rattle.std.proofs.Common.{◌≡◌, ◌↔◌, ◌⊎◌, inl, inr, ℕ, ◌+◌, ◌<◌, ◌≤◌, List, [], ◌∷◌, length, map, drop, get_or, Option, Some, slice_get, refl, sym, subst}
 use Rattle.std.specs.List.{Contains}
 use Rattle.std.proofs.Math.ListN.{drop_of_length-le}
-use Rattle.std.proofs.lemmas.Option.{slice_get_read}
 use Rattle.cddl_token.specs.declared.Token.{Token}
 use Rattle.tree_nodes.specs.Syntax.Syntax as S
 use Rattle.tree_nodes.specs.declared.tree.Leaf.{Leaf}
-use Rattle.tree_nodes.specs.declared.tree.Rule.{Rule}
-use Rattle.tree_nodes.specs.View.{view_rule}
-use Rattle.cddl_language.specs.Reading.{rules_of}
+use Rattle.cddl_language.specs.Reading.{name_at, rules_of}
 use Rattle.cddl_language.specs.Sites.{Site}
 use Rattle.cddl_language.specs.Faults.{Specification}
 use Rattle.check_sites.specs.declared.sites.site.Found.{Found}
@@ -17,6 +14,7 @@ use Rattle.check_sites.specs.Sites.Walk.{all_sites}
 use Rattle.lists.proofs.Lemmas.{at_head, either, first_or_later, later, none_in, one_of}
 use Rattle.all_offsets.specs.Offsets.{AreOf, Gains}
 use Rattle.check_text.specs.SiteFaults.Told.{Among, IsToldAt}
+use Rattle.check_text.proofs.OfRuleFaults.Rules.{none_left, rest_of, rule_at}
 use Rattle.check_text.proofs.OfRuleFaults.Telling.{OneOf}
 use Rattle.check_text.proofs.OfSiteFaults.Telling.{AllFound, FoundStand, IsTold, next_drop, there_told, told_there}
 
@@ -81,11 +79,11 @@ module _ (stand : FoundStand) (every : AllFound) (read : Leaf → Token) (tree :
 -- At rules.
 
 -- the same of the rules from this place on
-pub record GathersRules (read : Leaf → Token) (P : S.Rule → ℕ → Type 0) (all : List Rule) (i : ℕ) (offsets : List ℕ) : Type 0 where
-  pub gather : (p : ℕ) → (Contains offsets p ⊎ OneOf P (map (view_rule read) (drop i all)) p) ↔ OneOf P (map (view_rule read) all) p
+pub record GathersRules (P : S.Rule → ℕ → Type 0) (all : List S.Rule) (i : ℕ) (offsets : List ℕ) : Type 0 where
+  pub gather : (p : ℕ) → (Contains offsets p ⊎ OneOf P (drop i all) p) ↔ OneOf P all p
 
-module _ (read : Leaf → Token) (P : S.Rule → ℕ → Type 0) where
-  pub begins_rules : (all : List Rule) (offsets : List ℕ) → offsets ≡ [] → GathersRules read P all 0 offsets
+module _ (P : S.Rule → ℕ → Type 0) where
+  pub begins_rules : (all : List S.Rule) (offsets : List ℕ) → offsets ≡ [] → GathersRules P all 0 offsets
   begins_rules all offsets e = record { gather = λ p. (λ h. either h (λ c. absurd (none_in p (subst (λ xs. Contains xs p) e c))) (λ k. k), λ k. inr k) }
 
   in_rules : (r : S.Rule) (more : List S.Rule) (p : ℕ) → OneOf P (r ∷ more) p ↔ (P r p ⊎ OneOf P more p)
@@ -98,28 +96,28 @@ module _ (read : Leaf → Token) (P : S.Rule → ℕ → Type 0) where
       from (inl k) = record { rule = r; present = at_head r more; fault = k }
       from (inr k) = record { rule = k.rule; present = later r more k.rule k.present; fault = k.fault }
 
-  -- (items: all, as the loop reads them)
-  pub goes_on_rules : (all items : List Rule) (i : ℕ) (r : Rule) (old new : List ℕ) → items ≡ all → i < length items → r ≡ get_or items i r → (slice_get all i ≡ Some r → Gains (P (view_rule read r)) old new) → GathersRules read P all i old → GathersRules read P all (i + 1) new
-  goes_on_rules all items i r old new same l is told g = record { gather = λ p. (to p, from p) }
+  -- (starts: where the rules begin)
+  pub goes_on_rules : (all : List S.Rule) (starts : List ℕ) (i at : ℕ) (old new : List ℕ) → starts ≡ map name_at all → slice_get starts i ≡ Some at → ((r : S.Rule) → slice_get all i ≡ Some r → at ≡ name_at r → Gains (P r) old new) → GathersRules P all i old → GathersRules P all (i + 1) new
+  goes_on_rules all starts i at old new same is told g = by (rule_at all starts i at same is)
     where
-      rest : drop i all ≡ r ∷ drop (i + 1) all
-      rest = subst (λ xs. drop i xs ≡ r ∷ drop (i + 1) xs) same (next_drop items i r l is)
+      by : (r : S.Rule) × (slice_get all i ≡ Some r) × (at ≡ name_at r) → GathersRules P all (i + 1) new
+      by (r, there, begins) = record { gather = λ p. (to p, from p) }
+        where
+          gains : Gains (P r) old new
+          gains = told r there begins
 
-      gains : Gains (P (view_rule read r)) old new
-      gains = told (subst (λ xs. slice_get xs i ≡ Some r) same (slice_get_read items (length items) i r refl l is))
+          first : (p : ℕ) → (Contains old p ⊎ OneOf P (r ∷ drop (i + 1) all) p) ↔ OneOf P all p
+          first p = subst (λ rs. (Contains old p ⊎ OneOf P rs p) ↔ OneOf P all p) (rest_of all i r there) (g.gather p)
 
-      first : (p : ℕ) → (Contains old p ⊎ OneOf P (map (view_rule read) (r ∷ drop (i + 1) all)) p) ↔ OneOf P (map (view_rule read) all) p
-      first p = subst (λ xs. (Contains old p ⊎ OneOf P (map (view_rule read) xs) p) ↔ OneOf P (map (view_rule read) all) p) rest (g.gather p)
+          to : (p : ℕ) → Contains new p ⊎ OneOf P (drop (i + 1) all) p → OneOf P all p
+          to p (inl c) = either ((gains p).0 c) (λ o. (first p).0 (inl o)) (λ k. (first p).0 (inr ((in_rules r (drop (i + 1) all) p).1 (inl k))))
+          to p (inr m) = (first p).0 (inr ((in_rules r (drop (i + 1) all) p).1 (inr m)))
 
-      to : (p : ℕ) → Contains new p ⊎ OneOf P (map (view_rule read) (drop (i + 1) all)) p → OneOf P (map (view_rule read) all) p
-      to p (inl c) = either ((gains p).0 c) (λ o. (first p).0 (inl o)) (λ k. (first p).0 (inr ((in_rules (view_rule read r) (map (view_rule read) (drop (i + 1) all)) p).1 (inl k))))
-      to p (inr m) = (first p).0 (inr ((in_rules (view_rule read r) (map (view_rule read) (drop (i + 1) all)) p).1 (inr m)))
+          from : (p : ℕ) → OneOf P all p → Contains new p ⊎ OneOf P (drop (i + 1) all) p
+          from p k = either ((first p).1 k) (λ o. inl ((gains p).1 (inl o))) (λ m. either ((in_rules r (drop (i + 1) all) p).0 m) (λ t. inl ((gains p).1 (inr t))) inr)
 
-      from : (p : ℕ) → OneOf P (map (view_rule read) all) p → Contains new p ⊎ OneOf P (map (view_rule read) (drop (i + 1) all)) p
-      from p k = either ((first p).1 k) (λ o. inl ((gains p).1 (inl o))) (λ m. either ((in_rules (view_rule read r) (map (view_rule read) (drop (i + 1) all)) p).0 m) (λ t. inl ((gains p).1 (inr t))) inr)
-
-  pub ends_rules : (all items : List Rule) (i : ℕ) (offsets : List ℕ) → items ≡ all → length items ≤ i → GathersRules read P all i offsets → AreOf (OneOf P (map (view_rule read) all)) offsets
-  ends_rules all items i offsets same l g p = (λ c. (g.gather p).0 (inl c), λ k. either ((g.gather p).1 k) (λ c. c) (λ m. absurd (none (subst (λ xs. OneOf P (map (view_rule read) xs) p) (subst (λ xs. drop i xs ≡ []) same (drop_of_length-le items l)) m))))
+  pub ends_rules : (all : List S.Rule) (starts : List ℕ) (i : ℕ) (offsets : List ℕ) → starts ≡ map name_at all → length starts ≤ i → GathersRules P all i offsets → AreOf (OneOf P all) offsets
+  ends_rules all starts i offsets same l g p = (λ c. (g.gather p).0 (inl c), λ k. either ((g.gather p).1 k) (λ c. c) (λ m. absurd (none (subst (λ rs. OneOf P rs p) (none_left all starts i same l) m))))
     where
       none : OneOf P [] p → ⊥
       none m = none_in m.rule m.present

@@ -1,12 +1,11 @@
 -- What is told at rules, by the code.
-use Rattle.std.proofs.Common.{◌≡◌, ◌⊎◌, inl, inr, ℕ, List, ◌++◌, map, Some, sym, ap, subst, ◌∙◌}
+use Rattle.std.proofs.Common.{◌≡◌, ◌⊎◌, inl, inr, ℕ, List, ◌++◌, sym, ap, subst, ◌∙◌}
 use Rattle.tree_nodes.specs.Syntax.Syntax as S
 use Rattle.tree_nodes.specs.declared.tree.Tree.{Tree}
-use Rattle.tree_nodes.specs.View.{token_of, view, view_rule}
+use Rattle.tree_nodes.specs.View.{view}
 use Rattle.cddl_language.specs.Terms as L
-use Rattle.cddl_language.specs.Faults.{HasWrongArity, Specification, by_rule, parameter_count, rules}
-use Rattle.cddl_language.specs.Reading.{definitions_in, name_in, rules_of}
-use Rattle.check_reading.specs.Survey.Survey.{defined_in}
+use Rattle.cddl_language.specs.Faults.{HasWrongArity, Specification, by_rule, rules}
+use Rattle.cddl_language.specs.Reading.{rules_of}
 use Rattle.all_offsets.specs.Offsets.{AreOf}
 use Rattle.check_text.specs.Everywhere.Rules.{IsToldAtRule, IsToldAtRules}
 use Rattle.check_text.specs.RuleFaults.Arity.{HasOtherCount, HasWrongArityAtRule}
@@ -15,9 +14,9 @@ use Rattle.check_text.specs.SiteFaults.Sites.{HasWrongArityAtName}
 use Rattle.check_text.specs.declared.everywhere.rules.RuleCode.{RuleCode}
 use Rattle.check_text.specs.declared.everywhere.rules.RuleCode.TheVariants.{Duplicate, KindClash, Arity}
 use Rattle.all_offsets.proofs.Lemmas.{IsOne, of_both, same_of}
+use Rattle.check_text.proofs.OfRuleFaults.Arities.{count_at_rule, count_in_text}
 use Rattle.check_text.proofs.OfRuleFaults.Clashes.{clash_at_rule, clash_in_text}
 use Rattle.check_text.proofs.OfRuleFaults.Equals.{duplicate_at_rule, duplicate_in_text}
-use Rattle.check_text.proofs.OfRuleFaults.Rules.{rules_view}
 use Rattle.check_text.proofs.OfRuleFaults.Telling.{OneOf}
 use Rattle.check_text.proofs.OfSiteFaults.Lemmas.{at_rule_or_name, name_has_wrong_arity}
 
@@ -32,24 +31,18 @@ one_count ds r p q h k = h.offset ∙ sym k.offset
 -- In all of a text.
 
 module _ (tree : Tree) (z : Specification) (e : z.tree ≡ view tree) where
-  count_in_text : (p : ℕ) → OneOf (HasOtherCount (defined_in tree)) (rules z) p → HasWrongArityAtRule z p
-  count_in_text p k = record { rule = k.rule; count = k.fault.count; present = k.present; counted = subst (λ x. parameter_count (definitions_in (rules_of x)) (name_in k.rule) ≡ Some k.fault.count) (sym e) k.fault.counted; differs = k.fault.differs; offset = k.fault.offset }
-
-  count_at_rule : (p : ℕ) → HasWrongArityAtRule z p → OneOf (HasOtherCount (defined_in tree)) (rules z) p
-  count_at_rule p k = record { rule = k.rule; present = k.present; fault = record { count = k.count; counted = subst (λ x. parameter_count (definitions_in (rules_of x)) (name_in k.rule) ≡ Some k.count) e k.counted; differs = k.differs; offset = k.offset } }
-
   to_text : (code : RuleCode) (p : ℕ) → OneOf (IsToldAtRule code (rules_of (view tree))) (rules z) p → IsToldAtRules code z p
   to_text Duplicate p k = duplicate_in_text tree z e p k
   to_text KindClash p k = clash_in_text tree z e p k
-  to_text Arity p k = count_in_text p k
+  to_text Arity p k = count_in_text tree z e p k
 
   from_text : (code : RuleCode) (p : ℕ) → IsToldAtRules code z p → OneOf (IsToldAtRule code (rules_of (view tree))) (rules z) p
   from_text Duplicate p k = duplicate_at_rule tree z e p k
   from_text KindClash p k = clash_at_rule tree z e p k
-  from_text Arity p k = count_at_rule p k
+  from_text Arity p k = count_at_rule tree z e p k
 
-  pub in_text : (code : RuleCode) (offsets : List ℕ) → AreOf (OneOf (IsToldAtRule code (rules_of (view tree))) (map (view_rule (token_of tree)) tree.rules.items)) offsets → AreOf (IsToldAtRules code z) offsets
-  in_text code offsets h = same_of (OneOf (IsToldAtRule code (rules_of (view tree))) (rules z)) (IsToldAtRules code z) offsets (to_text code) (from_text code) (subst (λ rs. AreOf (OneOf (IsToldAtRule code (rules_of (view tree))) rs) offsets) (sym (ap rules_of e ∙ rules_view tree)) h)
+  pub in_text : (code : RuleCode) (offsets : List ℕ) → AreOf (OneOf (IsToldAtRule code (rules_of (view tree))) (rules_of (view tree))) offsets → AreOf (IsToldAtRules code z) offsets
+  in_text code offsets h = same_of (OneOf (IsToldAtRule code (rules_of (view tree))) (rules z)) (IsToldAtRules code z) offsets (to_text code) (from_text code) (subst (λ rs. AreOf (OneOf (IsToldAtRule code (rules_of (view tree))) rs) offsets) (sym (ap rules_of e)) h)
 
 -- A wrong arity is told at a rule or at a name.
 pub wrong_arities : (s : Specification) (xs ys : List ℕ) → AreOf (HasWrongArityAtRule s) xs → AreOf (HasWrongArityAtName s) ys → AreOf (HasWrongArity s) (xs ++ ys)

@@ -1,37 +1,29 @@
 -- Definitions with another number of parameters than their name has.
-use Rattle.std.proofs.Common.{◌≡◌, ◌≢◌, ◌⊎◌, inl, inr, ℕ, zero, suc, ◌+◌, ◌<◌, ◌≤◌, Bool, true, false, if◌then◌else◌, is_some, List, [], ◌∷◌, length, map, Option, Some, None, refl, sym, ap, subst, ◌∙◌, nat_eq, slice_get, arith}
-use Rattle.std.specs.List.{Contains}
+use Rattle.std.proofs.Common.{◌≡◌, ◌≢◌, ◌⊎◌, inl, inr, ℕ, zero, suc, ◌<◌, ◌≤◌, Bool, true, false, if◌then◌else◌, is_some, List, [], ◌∷◌, length, Option, Some, None, refl, sym, ap, subst, ◌∙◌, nat_eq, slice_get, arith}
 use Rattle.std.proofs.lemmas.Bool.Decides.{eqb_tells}
 use Rattle.std.proofs.lemmas.Option.{slice_get_within}
-use Rattle.cddl_token.specs.declared.Token.{Token}
 use Rattle.tree_nodes.specs.Syntax.Syntax as S
 use Rattle.cddl_language.specs.Terms as L
 use Rattle.cddl_language.specs.Environment.{is_in_prelude, named_so}
 use Rattle.cddl_language.specs.Faults as F
-use Rattle.cddl_language.specs.Faults.{Specification, definitions, parameter_count, rules}
+use Rattle.cddl_language.specs.Faults.{Specification, parameter_count, rules}
 use Rattle.cddl_language.specs.Reading.{definition_of, definitions_in, name_at, name_in, parameters_in, rules_of}
 use Rattle.check_terms.specs.declared.definition.Definition.{Definition}
-use Rattle.check_terms.specs.Definitions.{AreDefinitions, no_definitions, further_definition, IsDefinition}
+use Rattle.check_terms.specs.Definitions.{IsDefinition}
 use Rattle.check_terms.specs.Table.{Table}
-use Rattle.tree_nodes.specs.declared.tree.Leaf.{Leaf}
-use Rattle.tree_nodes.specs.declared.tree.Rule.{Rule}
 use Rattle.tree_nodes.specs.declared.tree.Tree.{Tree}
-use Rattle.tree_nodes.specs.View.{token_of, view, view_rule}
+use Rattle.tree_nodes.specs.View.{view}
 use Rattle.check_names.specs.declared.environment.environment.Name.{Name}
 use Rattle.check_names.specs.Environment.Environment.{AreAt, IsStanding, none_there, one_there}
 use Rattle.check_names.specs.Environment.Names.{standing}
 use Rattle.check_names.specs.Environment.Places.{first_of}
 use Rattle.check_reading.specs.declared.survey.survey.Survey.{Survey}
-use Rattle.lists.specs.Least.{IsLeast, lesser_of}
-use Rattle.check_reading.specs.Survey.Survey.{IsSurvey}
-use Rattle.lists.proofs.Lemmas.{same_least as alike, lesser_least as either}
-use Rattle.check_text.specs.RuleFaults.Arity.{HasOtherCount, HasWrongArityAtRule, arities, arity_at, count_by, count_of, count_there, first_count, told_unless}
-use Rattle.check_text.proofs.OfRuleFaults.Rules.{IsRest, as_many, at_first, definition_at, first_or_later, later, lesser_last, lesser_none, none_in, rest_first, rest_further, rules_view, whole}
-
-record OneFaults (xs : List L.Definition) (rs : List S.Rule) (at : ℕ) : Type 0 where
-  rule : S.Rule
-  present : Contains rs rule
-  fault : HasOtherCount xs rule at
+use Rattle.lists.specs.Least.{IsLeast}
+use Rattle.check_reading.specs.Survey.Survey.{IsSurvey, defined_in}
+use Rattle.lists.proofs.Lemmas.{same_least as alike}
+use Rattle.check_text.specs.RuleFaults.Arity.{HasOtherCount, HasWrongArityAtRule, arity_at, count_by, count_of, count_there, first_count, told_unless}
+use Rattle.check_text.proofs.OfRuleFaults.Rules.{as_many, definition_at}
+use Rattle.check_text.proofs.OfRuleFaults.Telling.{OneOf}
 
 told : (xs : List L.Definition) (r : S.Rule) (own : ℕ) (o : Option ℕ) → own ≡ length (parameters_in r) → parameter_count xs (name_in r) ≡ o → IsLeast (HasOtherCount xs r) (told_unless own o (name_at r))
 told xs r own None e h = λ p f. none f.count (sym h ∙ f.counted)
@@ -77,45 +69,19 @@ module _ (t : Table) (tree : Tree) (s : Survey) (is : IsSurvey t tree s) where
       found (v ∷ vs) zero h = (v, refl)
       found (v ∷ vs) (suc k) h = found vs k (omega (arith, h))
 
-  pub one_rule : (r : Rule) (d : Definition) → IsDefinition t d (definition_of (view_rule (token_of tree) r)) → IsLeast (HasOtherCount (definitions_in (rules_of (view tree))) (view_rule (token_of tree) r)) (arity_at (token_of tree) s.definitions.items s.names.items (Some r) d)
+  pub one_rule : (r : S.Rule) (d : Definition) → IsDefinition t d (definition_of r) → IsLeast (HasOtherCount (definitions_in (rules_of (view tree))) r) (arity_at s.definitions.items s.names.items d (name_at r))
   one_rule r d h =
-      let v = name_there d.name (name_in (view_rule (token_of tree) r)) h.name in
-      told (definitions_in (rules_of (view tree))) (view_rule (token_of tree) r) (length d.parameters.items) (count_there s.definitions.items (slice_get s.names.items d.name)) (as_many t.texts d.parameters.items (parameters_in (view_rule (token_of tree) r)) h.parameters) (sym (ap (count_there s.definitions.items) v.1 ∙ own_count (name_in (view_rule (token_of tree) r)) v.0 (is.names_stand d.name (name_in (view_rule (token_of tree) r)) v.0 h.name v.1)))
+      let v = name_there d.name (name_in r) h.name in
+      told (definitions_in (rules_of (view tree))) r (length d.parameters.items) (count_there s.definitions.items (slice_get s.names.items d.name)) (as_many t.texts d.parameters.items (parameters_in r) h.parameters) (sym (ap (count_there s.definitions.items) v.1 ∙ own_count (name_in r) v.0 (is.names_stand d.name (name_in r) v.0 h.name v.1)))
 
-  all_rules : (i : ℕ) (rs : List Rule) (ds : List Definition) → IsRest tree.rules.items i rs → AreDefinitions t ds (definitions_in (map (view_rule (token_of tree)) rs)) → IsLeast (OneFaults (definitions_in (rules_of (view tree))) (map (view_rule (token_of tree)) rs)) (arities (token_of tree) s.definitions.items s.names.items tree.rules.items i ds)
-  all_rules i [] [] rest no_definitions = λ p f. none_in f.rule f.present
-  all_rules i [] (d ∷ ds) rest h = elim h [ ]
-  all_rules i (r ∷ rs) [] rest h = elim h [ ]
-  all_rules i (r ∷ rs) (d ∷ ds) rest (further_definition h hs) =
-      subst (λ o. IsLeast (OneFaults (definitions_in (rules_of (view tree))) (map (view_rule (token_of tree)) (r ∷ rs))) (lesser_of (arity_at (token_of tree) s.definitions.items s.names.items o d) (arities (token_of tree) s.definitions.items s.names.items tree.rules.items (i + 1) ds))) (sym (rest_first tree.rules.items i r rs rest)) (alike _ _ onwards back _ (either _ _ _ _ (one_rule r d h) (all_rules (i + 1) rs ds (rest_further tree.rules.items i r rs rest) hs)))
-    where
-      onwards : (p : ℕ) → HasOtherCount (definitions_in (rules_of (view tree))) (view_rule (token_of tree) r) p ⊎ OneFaults (definitions_in (rules_of (view tree))) (map (view_rule (token_of tree)) rs) p → OneFaults (definitions_in (rules_of (view tree))) (map (view_rule (token_of tree)) (r ∷ rs)) p
-      onwards p (inl f) = record { rule = view_rule (token_of tree) r; present = at_first (view_rule (token_of tree) r) (map (view_rule (token_of tree)) rs); fault = f }
-      onwards p (inr f) = record { rule = f.rule; present = later (view_rule (token_of tree) r) f.rule (map (view_rule (token_of tree)) rs) f.present; fault = f.fault }
+-- In all of a text.
 
-      back : (p : ℕ) → OneFaults (definitions_in (rules_of (view tree))) (map (view_rule (token_of tree)) (r ∷ rs)) p → HasOtherCount (definitions_in (rules_of (view tree))) (view_rule (token_of tree) r) p ⊎ OneFaults (definitions_in (rules_of (view tree))) (map (view_rule (token_of tree)) rs) p
-      back p f = by (first_or_later (view_rule (token_of tree) r) (map (view_rule (token_of tree)) rs) f.rule f.present)
-        where
-          by : (view_rule (token_of tree) r ≡ f.rule) ⊎ Contains (map (view_rule (token_of tree)) rs) f.rule → HasOtherCount (definitions_in (rules_of (view tree))) (view_rule (token_of tree) r) p ⊎ OneFaults (definitions_in (rules_of (view tree))) (map (view_rule (token_of tree)) rs) p
-          by (inl e) = inl (subst (λ q. HasOtherCount (definitions_in (rules_of (view tree))) q p) (sym e) f.fault)
-          by (inr k) = inr (record { rule = f.rule; present = k; fault = f.fault })
+module _ (tree : Tree) (z : Specification) (e : z.tree ≡ view tree) where
+  pub count_in_text : (p : ℕ) → OneOf (HasOtherCount (defined_in tree)) (rules z) p → HasWrongArityAtRule z p
+  count_in_text p k = record { rule = k.rule; count = k.fault.count; present = k.present; counted = subst (λ x. parameter_count (definitions_in (rules_of x)) (name_in k.rule) ≡ Some k.fault.count) (sym e) k.fault.counted; differs = k.fault.differs; offset = k.fault.offset }
 
-  pub wrong_arities : (z : Specification) → z.tree ≡ view tree → (o : Option ℕ) → o ≡ arities (token_of tree) s.definitions.items s.names.items tree.rules.items 0 s.definitions.items → IsLeast (HasWrongArityAtRule z) o
-  wrong_arities z e o g = subst (IsLeast (HasWrongArityAtRule z)) (sym g) (alike _ _ onwards back _ (all_rules 0 tree.rules.items s.definitions.items (whole tree.rules.items) (subst (λ rs. AreDefinitions t s.definitions.items (definitions_in rs)) (rules_view tree) is.text_read)))
-    where
-      here : rules z ≡ map (view_rule (token_of tree)) tree.rules.items
-      here = ap rules_of e ∙ rules_view tree
+  pub count_at_rule : (p : ℕ) → HasWrongArityAtRule z p → OneOf (HasOtherCount (defined_in tree)) (rules z) p
+  count_at_rule p k = record { rule = k.rule; present = k.present; fault = record { count = k.count; counted = subst (λ x. parameter_count (definitions_in (rules_of x)) (name_in k.rule) ≡ Some k.count) e k.counted; differs = k.differs; offset = k.offset } }
 
-      onwards : (p : ℕ) → OneFaults (definitions_in (rules_of (view tree))) (map (view_rule (token_of tree)) tree.rules.items) p → HasWrongArityAtRule z p
-      onwards p f = record { rule = f.rule; count = f.fault.count; present = subst (λ rs. Contains rs f.rule) (sym here) f.present; counted = subst (λ x. parameter_count (definitions_in (rules_of x)) (name_in f.rule) ≡ Some f.fault.count) (sym e) f.fault.counted; differs = f.fault.differs; offset = f.fault.offset }
-
-      back : (p : ℕ) → HasWrongArityAtRule z p → OneFaults (definitions_in (rules_of (view tree))) (map (view_rule (token_of tree)) tree.rules.items) p
-      back p f = record { rule = f.rule; present = subst (λ rs. Contains rs f.rule) here f.present; fault = record { count = f.count; counted = subst (λ x. parameter_count (definitions_in (rules_of x)) (name_in f.rule) ≡ Some f.count) e f.counted; differs = f.differs; offset = f.offset } }
-
--- The loop over the definitions.
-module _ (read : Leaf → Token) (ds : List Definition) (names : List Name) (rs : List Rule) (total : Option ℕ) where
-  pub next_rule : (i : ℕ) (rest further : List Definition) (d : Definition) (least o new : Option ℕ) → rest ≡ d ∷ further → o ≡ arity_at read ds names (slice_get rs i) d → new ≡ lesser_of least o → lesser_of least (arities read ds names rs i rest) ≡ total → lesser_of new (arities read ds names rs (i + 1) further) ≡ total
-  next_rule i rest further d least o new e f g h = ap (λ q. lesser_of q (arities read ds names rs (i + 1) further)) (g ∙ ap (lesser_of least) f) ∙ lesser_last least (arity_at read ds names (slice_get rs i) d) (arities read ds names rs (i + 1) further) ∙ ap (λ q. lesser_of least (arities read ds names rs i q)) (sym e) ∙ h
-
-  pub no_more_rules : (i : ℕ) (rest : List Definition) (least : Option ℕ) → rest ≡ [] → lesser_of least (arities read ds names rs i rest) ≡ total → least ≡ total
-  no_more_rules i rest least e h = sym (lesser_none least) ∙ ap (λ q. lesser_of least (arities read ds names rs i q)) (sym e) ∙ h
+  pub counts : (o : Option ℕ) → IsLeast (OneOf (HasOtherCount (defined_in tree)) (rules z)) o → IsLeast (HasWrongArityAtRule z) o
+  counts o h = alike (OneOf (HasOtherCount (defined_in tree)) (rules z)) (HasWrongArityAtRule z) count_in_text count_at_rule o h

@@ -1,5 +1,5 @@
 -- Definitions of another kind than their name has.
-use Rattle.std.proofs.Common.{◌≡◌, ◌≢◌, ℕ, zero, suc, ◌≤◌, [], ◌∷◌, Bool, true, false, not, if◌then◌else◌, List, map, Option, Some, None, refl, sym, ap, subst, ◌∙◌, slice_get, arith}
+use Rattle.std.proofs.Common.{◌≡◌, ◌≢◌, ℕ, ◌≤◌, Bool, true, false, not, if◌then◌else◌, List, Option, Some, None, refl, sym, ap, subst, ◌∙◌, slice_get, arith}
 use Rattle.tree_nodes.specs.Syntax.Syntax as S
 use Rattle.cddl_language.specs.Terms as L
 use Rattle.cddl_language.specs.Faults.{IsKindClash, Specification, definitions, rules}
@@ -8,28 +8,19 @@ use Rattle.cddl_language.specs.Reading.{definition_of, definitions_in, name_at, 
 use Rattle.check_terms.specs.declared.definition.Definition.{Definition}
 use Rattle.check_terms.specs.Definitions.{IsDefinition}
 use Rattle.check_terms.specs.Table.{Table}
-use Rattle.tree_nodes.specs.declared.tree.Rule.{Rule}
 use Rattle.tree_nodes.specs.declared.tree.Tree.{Tree}
-use Rattle.tree_nodes.specs.View.{token_of, view, view_rule}
+use Rattle.tree_nodes.specs.View.{view}
 use Rattle.check_reading.specs.declared.survey.survey.Survey.{Survey}
 use Rattle.lists.specs.Least.{IsLeast}
 use Rattle.check_reading.specs.Survey.Survey.{IsSurvey, defined_in}
 use Rattle.lists.proofs.Lemmas.{same_least as alike}
 use Rattle.check_text.specs.RuleFaults.Kinds.{IsClashAt}
-use Rattle.check_text.proofs.OfRuleFaults.Rules.{definition_at, rules_view}
+use Rattle.check_text.proofs.OfRuleFaults.Rules.{definition_at, rule_there}
 use Rattle.check_text.proofs.OfRuleFaults.Telling.{OneOf}
 
 -- the definition of the rule at a place
-pub definition_there : (t : Table) (tree : Tree) (s : Survey) → IsSurvey t tree s → (p : ℕ) (r : Rule) → slice_get tree.rules.items p ≡ Some r → (d : Definition) × (slice_get s.definitions.items p ≡ Some d) × IsDefinition t d (definition_of (view_rule (token_of tree) r))
-definition_there t tree s is p r e = definition_at t s.definitions.items (defined_in tree) p (definition_of (view_rule (token_of tree) r)) is.text_read (subst (λ rs. slice_get (definitions_in rs) p ≡ Some (definition_of (view_rule (token_of tree) r))) (sym (rules_view tree)) (at tree.rules.items p e))
-  where
-    at : (rs : List Rule) (p : ℕ) → slice_get rs p ≡ Some r → slice_get (definitions_in (map (view_rule (token_of tree)) rs)) p ≡ Some (definition_of (view_rule (token_of tree) r))
-    at [] p e = cc
-    at (q ∷ rs) zero e = ap (λ x. Some (definition_of (view_rule (token_of tree) x))) (one q e)
-      where
-        one : (q : Rule) → Some q ≡ Some r → q ≡ r
-        one q e = cc
-    at (q ∷ rs) (suc p) e = at rs p e
+pub definition_there : (t : Table) (tree : Tree) (s : Survey) → IsSurvey t tree s → (p : ℕ) (r : S.Rule) → slice_get (rules_of (view tree)) p ≡ Some r → (d : Definition) × (slice_get s.definitions.items p ≡ Some d) × IsDefinition t d (definition_of r)
+definition_there t tree s is p r e = definition_at t s.definitions.items (defined_in tree) p (definition_of r) is.text_read (rule_there (rules_of (view tree)) p r e)
 
 differing : (a b : Bool) → (if a then not b else b) ≡ true → a ≢ b
 differing true true e f = cc

@@ -1,9 +1,9 @@
 -- Definitions by `=` that say something else than the first one of their name, and all that is told of one rule.
-use Rattle.std.proofs.Common.{◌≡◌, ◌≢◌, ◌↔◌, ◌⊎◌, inl, inr, ℕ, zero, suc, ◌+◌, ◌≤◌, Bool, true, false, not, ◌&&◌, if◌then◌else◌, List, [], ◌∷◌, Option, Some, None, refl, sym, ap, subst, ◌∙◌, slice_get, arith, true≢false}
+use Rattle.std.proofs.Common.{◌≡◌, ◌≢◌, ◌↔◌, ◌⊎◌, inl, inr, ℕ, zero, suc, ◌+◌, ◌≤◌, Bool, true, false, not, ◌&&◌, if◌then◌else◌, List, [], ◌∷◌, map, Option, Some, None, refl, sym, ap, subst, ◌∙◌, slice_get, arith, true≢false}
 use Rattle.std.specs.List.{Contains}
 use Rattle.std.specs.Cmp.Lexicographic.{same_text}
 use Rattle.std.proofs.lemmas.Cmp.{nat_list_eq_equiv}
-use Rattle.lists.proofs.Lemmas.{and_false, both as and_true, is_equal as same_eq, lesser_least as either, same_least as alike, test_equal as eq_same}
+use Rattle.lists.proofs.Lemmas.{and_false, both as and_true, is_equal as same_eq, lesser_least as either, one_of, same_least as alike, test_equal as eq_same}
 use Rattle.cddl_token.specs.declared.Token.{Token}
 use Rattle.tree_nodes.specs.Syntax.Syntax as S
 use Rattle.cddl_language.specs.Terms as L
@@ -26,10 +26,10 @@ use Rattle.tree_nodes.specs.declared.tree.Tree.{Tree}
 use Rattle.tree_nodes.specs.View.{view}
 use Rattle.check_reading.specs.declared.survey.survey.Survey.{Survey}
 use Rattle.lists.specs.Least.{IsLeast, lesser_of}
-use Rattle.check_reading.specs.Survey.Survey.{IsSurvey}
+use Rattle.check_reading.specs.Survey.Survey.{IsSurvey, parameters_at, token_at}
 use Rattle.check_text.specs.RuleFaults.Duplicates.{IsDuplicateAt, other_equals, parameter_twice, IsRepeated, differs, differs_there, first_place, other_equals_by, same_body, same_definition, same_sign}
 use Rattle.check_text.proofs.OfRuleFaults.Arities.{name_there}
-use Rattle.check_text.proofs.OfRuleFaults.Rules.{IsRest, definition_at, rest_first, rest_further, whole}
+use Rattle.check_text.proofs.OfRuleFaults.Rules.{IsRest, definition_at, rest_first, rest_further, rule_there, whole}
 use Rattle.check_text.proofs.OfRuleFaults.Telling.{OneOf}
 
 -- Definitions are compared by all their numbers.
@@ -91,15 +91,6 @@ first_there n all i (r ∷ rs) h = by (E.is_same (name_in r) n && E.is_equals (s
     by : (b : Bool) → F.first_equals rs n ≡ at_place all (first_of (equals_from (i + 1) n (definitions_in rs))) → (if b then Some r else F.first_equals rs n) ≡ at_place all (first_of (if b then i ∷ equals_from (i + 1) n (definitions_in rs) else equals_from (i + 1) n (definitions_in rs)))
     by true k = sym (rest_first all i r rs h)
     by false k = k
-
-rule_there : (rs : List S.Rule) (p : ℕ) (r : S.Rule) → slice_get rs p ≡ Some r → slice_get (definitions_in rs) p ≡ Some (definition_of r)
-rule_there [] p r e = cc
-rule_there (q ∷ rs) zero r e = ap definition_there e
-  where
-    definition_there : Option S.Rule → Option L.Definition
-    definition_there (Some x) = Some (definition_of x)
-    definition_there None = None
-rule_there (q ∷ rs) (suc p) r e = rule_there rs p r e
 
 none_there : (t : Table) (ds : List Definition) (rs : List S.Rule) (p : ℕ) → AreDefinitions t ds (definitions_in rs) → slice_get rs p ≡ None → slice_get ds p ≡ None
 none_there t [] rs p h e = refl
@@ -183,28 +174,32 @@ module _ (t : Table) (tree : Tree) (s : Survey) (is : IsSurvey t tree s) (law : 
   one_text : (o : Option Text) (x y : Text) → o ≡ Some x → o ≡ Some y → x ≡ y
   one_text o x y e f = cc
 
-  one_token : (o : Option Token) (x y : Token) → o ≡ Some x → o ≡ Some y → x ≡ y
-  one_token o x y e f = cc
+  -- the offset at a place, and the token there
+  offset_there : (ts : List Token) (j : ℕ) (u : Token) → slice_get ts j ≡ Some u → slice_get (map token_at ts) j ≡ Some u.start
+  offset_there [] j u e = cc
+  offset_there (x ∷ ts) zero u e = ap start_in e
+    where
+      start_in : Option Token → Option ℕ
+      start_in (Some y) = Some y.start
+      start_in None = None
+  offset_there (x ∷ ts) (suc j) u e = offset_there ts j u e
 
-  abbrev tokens : List Token
-  tokens = parameter_tokens (rule_head r)
-
-  pub to_duplicate : (at : ℕ) → IsOther (rules_of (view tree)) r at ⊎ IsRepeated d.parameters.items (parameter_tokens (rule_head r)) at → IsDuplicateAt (rules_of (view tree)) r at
+  pub to_duplicate : (at : ℕ) → IsOther (rules_of (view tree)) r at ⊎ IsRepeated d.parameters.items (parameters_at r) at → IsDuplicateAt (rules_of (view tree)) r at
   to_duplicate at (inl f) = other_equals f.equals f.first_so f.differs f.offset
   to_duplicate at (inr f) =
       let x = by_number d.parameters.items (parameter_tokens (rule_head r)) h.parameters f.earlier f.number f.first in
       let y = by_number d.parameters.items (parameter_tokens (rule_head r)) h.parameters f.later f.number f.second in
-      parameter_twice f.before x.1 f.there (one_text (slice_get t.texts f.number) (text_of x.0) (text_of f.token) x.2 (subst (λ u. slice_get t.texts f.number ≡ Some (text_of u)) (one_token _ y.0 f.token y.1 f.there) y.2)) f.offset
+      parameter_twice f.before x.1 y.1 (one_text (slice_get t.texts f.number) (text_of x.0) (text_of y.0) x.2 y.2) (one_of (slice_get (parameters_at r) f.later) at y.0.start f.there (offset_there (parameter_tokens (rule_head r)) f.later y.0 y.1))
 
-  pub from_duplicate : (at : ℕ) → IsDuplicateAt (rules_of (view tree)) r at → IsOther (rules_of (view tree)) r at ⊎ IsRepeated d.parameters.items (parameter_tokens (rule_head r)) at
+  pub from_duplicate : (at : ℕ) → IsDuplicateAt (rules_of (view tree)) r at → IsOther (rules_of (view tree)) r at ⊎ IsRepeated d.parameters.items (parameters_at r) at
   from_duplicate at (other_equals {q = q} a f g i) = inl (record { first = q; equals = a; first_so = f; differs = g; offset = i })
   from_duplicate at (parameter_twice {t = u} {u = v} {j = j} {k = m} l a b same i) =
       let x = by_token d.parameters.items (parameter_tokens (rule_head r)) h.parameters j u a in
       let y = by_token d.parameters.items (parameter_tokens (rule_head r)) h.parameters m v b in
       let equal = is.table.texts x.0 y.0 (text_of u) x.2 (y.2 ∙ ap Some (sym same)) in
-      inr (record { earlier = j; later = m; number = x.0; token = v; before = l; first = x.1; second = y.1 ∙ ap Some (sym equal); there = b; offset = i })
+      inr (record { earlier = j; later = m; number = x.0; before = l; first = x.1; second = y.1 ∙ ap Some (sym equal); there = offset_there (parameter_tokens (rule_head r)) m v b ∙ ap Some (sym i) })
 
-  pub both : (o p : Option ℕ) → o ≡ other_equals_by s.definitions.items s.names.items d (name_at r) → IsLeast (IsRepeated d.parameters.items (parameter_tokens (rule_head r))) p → IsLeast (IsDuplicateAt (rules_of (view tree)) r) (lesser_of o p)
+  pub both : (o p : Option ℕ) → o ≡ other_equals_by s.definitions.items s.names.items d (name_at r) → IsLeast (IsRepeated d.parameters.items (parameters_at r)) p → IsLeast (IsDuplicateAt (rules_of (view tree)) r) (lesser_of o p)
   both o p e k = alike _ _ to_duplicate from_duplicate _ (either _ _ o p (subst (IsLeast (IsOther (rules_of (view tree)) r)) (sym e) others) k)
 
 module _ (tree : Tree) (z : Specification) (e : z.tree ≡ view tree) where

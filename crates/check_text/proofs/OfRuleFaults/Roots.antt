@@ -15,9 +15,8 @@ use Rattle.cddl_language.specs.Reading.{definition_of, definitions_in, name_at, 
 use Rattle.check_terms.specs.declared.definition.Definition.{Definition}
 use Rattle.check_terms.specs.Definitions.{AreDefinitions, no_definitions, further_definition}
 use Rattle.check_terms.specs.Table.{Table}
-use Rattle.tree_nodes.specs.declared.tree.Rule.{Rule}
 use Rattle.tree_nodes.specs.declared.tree.Tree.{Tree}
-use Rattle.tree_nodes.specs.View.{token_of, view, view_rule}
+use Rattle.tree_nodes.specs.View.{view}
 use Rattle.check_names.specs.declared.environment.environment.Name.{Name}
 use Rattle.check_names.specs.Environment.Environment.{named_from}
 use Rattle.check_names.specs.Environment.Places.{first_of}
@@ -27,7 +26,7 @@ use Rattle.lists.specs.Least.{IsLeast}
 use Rattle.check_reading.specs.Survey.Survey.{IsSurvey}
 use Rattle.check_text.specs.RuleFaults.Root.{bad_at, bad_by, bad_first, either_number, first_number, has_some, is_text, number_of_name, root_number}
 use Rattle.check_text.proofs.OfRuleFaults.Arities.{name_there}
-use Rattle.check_text.proofs.OfRuleFaults.Rules.{IsRest, as_many, definition_at, rest_first, rest_further, rules_view, whole}
+use Rattle.check_text.proofs.OfRuleFaults.Rules.{IsRest, as_many, definition_at, rest_first, rest_further, rule_there, whole}
 
 -- The number of a name among definitions.
 
@@ -77,6 +76,17 @@ nowhere n xs h k = ap (λ ys. (if has_equals ys then [] else named_so n prelude)
 abbrev pub IsRoot : Table → Specification → Option ℕ → Type 0
 IsRoot t z None = HasNoRoot z 0
 IsRoot t z (Some k) = (n : Text) × (root_of z ≡ Some n) × (slice_get t.texts k ≡ Some n) × (definitions_of (definitions z) n ≢ [])
+
+-- where the rule at a place begins
+
+abbrev start_in : Option S.Rule → Option ℕ
+start_in None = None
+start_in (Some r) = Some (name_at r)
+
+starts_there : (rs : List S.Rule) (p : ℕ) → slice_get (map name_at rs) p ≡ start_in (slice_get rs p)
+starts_there [] p = refl
+starts_there (r ∷ rs) zero = refl
+starts_there (r ∷ rs) (suc p) = starts_there rs p
 
 module _ (t : Table) (tree : Tree) (s : Survey) (is : IsSurvey t tree s) (z : Specification) (of : z.tree ≡ view tree) where
   text_read : AreDefinitions t s.definitions.items (definitions z)
@@ -129,27 +139,6 @@ module _ (t : Table) (tree : Tree) (s : Survey) (is : IsSurvey t tree s) (z : Sp
       by : (b : Bool) → first_rule rs n ≡ at_place all (first_of (named_from (i + 1) n (definitions_in rs))) → (if b then Some r else first_rule rs n) ≡ at_place all (first_of (if b then i ∷ named_from (i + 1) n (definitions_in rs) else named_from (i + 1) n (definitions_in rs)))
       by true k = sym (rest_first all i r rs h)
       by false k = k
-
-  rule_there : (rs : List S.Rule) (p : ℕ) (r : S.Rule) → slice_get rs p ≡ Some r → slice_get (definitions_in rs) p ≡ Some (definition_of r)
-  rule_there [] p r e = cc
-  rule_there (q ∷ rs) zero r e = ap definition_there e
-    where
-      definition_there : Option S.Rule → Option L.Definition
-      definition_there (Some x) = Some (definition_of x)
-      definition_there None = None
-  rule_there (q ∷ rs) (suc p) r e = rule_there rs p r e
-
-  abbrev viewed : Option Rule → Option S.Rule
-  viewed (Some x) = Some (view_rule (token_of tree) x)
-  viewed None = None
-
-  mapped_there : (rs : List Rule) (p : ℕ) → slice_get (map (view_rule (token_of tree)) rs) p ≡ viewed (slice_get rs p)
-  mapped_there [] p = refl
-  mapped_there (q ∷ rs) zero = refl
-  mapped_there (q ∷ rs) (suc p) = mapped_there rs p
-
-  rules_here : rules z ≡ map (view_rule (token_of tree)) tree.rules.items
-  rules_here = ap rules_of of ∙ rules_view tree
 
   some_parameters : (ks : List ℕ) (ps : List Text) → length ks ≡ length ps → (b : Bool) → has_some ks ≡ b → (b ≡ true → ps ≢ []) × (b ≡ false → ps ≡ [])
   some_parameters [] [] e b h = (λ f g. true≢false (sym f ∙ sym h), λ f. refl)
@@ -211,31 +200,35 @@ module _ (t : Table) (tree : Tree) (s : Survey) (is : IsSurvey t tree s) (z : Sp
             name m n e = cc
 
   -- the offset that is told
-  pub is_bad : (k : ℕ) (n : Text) → root_of z ≡ Some n → slice_get t.texts k ≡ Some n → IsLeast (HasBadRoot z) (bad_at (token_of tree) s.kinds s.definitions.items tree.rules.items k (slice_get s.names.items k))
+  pub is_bad : (k : ℕ) (n : Text) → root_of z ≡ Some n → slice_get t.texts k ≡ Some n → IsLeast (HasBadRoot z) (bad_at s.kinds s.definitions.items s.starts.items k (slice_get s.names.items k))
   is_bad k n rooted e =
       let v = name_there t tree s is k n e in
-      subst (λ o. IsLeast (HasBadRoot z) (bad_at (token_of tree) s.kinds s.definitions.items tree.rules.items k o)) (sym v.1) (by v.0.first (slice_first v.0 (is.names_stand k n v.0 e v.1).first))
+      subst (λ o. IsLeast (HasBadRoot z) (bad_at s.kinds s.definitions.items s.starts.items k o)) (sym v.1) (by v.0.first (slice_first v.0 (is.names_stand k n v.0 e v.1).first))
     where
-      slice_first : (v : Name) → v.first ≡ first_of (named_from 0 n (definitions_in (rules_of (view tree)))) → first_rule (rules z) n ≡ at_place (map (view_rule (token_of tree)) tree.rules.items) v.first
-      slice_first v h = ap (λ rs. first_rule rs n) rules_here ∙ first_there n (map (view_rule (token_of tree)) tree.rules.items) 0 (map (view_rule (token_of tree)) tree.rules.items) (whole (map (view_rule (token_of tree)) tree.rules.items)) ∙ ap (at_place (map (view_rule (token_of tree)) tree.rules.items)) (ap (λ rs. first_of (named_from 0 n (definitions_in rs))) (sym (rules_view tree)) ∙ sym h)
+      here : rules_of (view tree) ≡ rules z
+      here = ap rules_of (sym of)
+
+      slice_first : (v : Name) → v.first ≡ first_of (named_from 0 n (definitions_in (rules_of (view tree)))) → first_rule (rules z) n ≡ at_place (rules z) v.first
+      slice_first v h = first_there n (rules z) 0 (rules z) (whole (rules z)) ∙ ap (at_place (rules z)) (ap (λ rs. first_of (named_from 0 n (definitions_in rs))) (sym here) ∙ sym h)
 
       group : is_group_there s.kinds k ≡ is_group (definitions z) n
       group = is.kinds_found.groups k n e ∙ ap (λ x. is_group (definitions_in (rules_of x)) n) (sym of)
 
-      there : (p : ℕ) (o : Option Rule) → slice_get tree.rules.items p ≡ o → first_rule (rules z) n ≡ viewed o → IsLeast (HasBadRoot z) (bad_by (token_of tree) (is_group_there s.kinds k) (slice_get s.definitions.items p) o)
-      there p None h f = subst (λ d. IsLeast (HasBadRoot z) d) (nothing (slice_get s.definitions.items p)) (none_bad n rooted f)
-        where
-          nothing : (d : Option Definition) → None ≡ bad_by (token_of tree) (is_group_there s.kinds k) d None
-          nothing None = refl
-          nothing (Some d) = refl
-      there p (Some r) h f =
-          let d = definition_at t s.definitions.items (definitions_in (map (view_rule (token_of tree)) tree.rules.items)) p (definition_of (view_rule (token_of tree) r)) (subst (λ rs. AreDefinitions t s.definitions.items (definitions_in rs)) (rules_view tree) is.text_read) (rule_there (map (view_rule (token_of tree)) tree.rules.items) p (view_rule (token_of tree) r) (mapped_there tree.rules.items p ∙ ap viewed h)) in
-          let some = some_parameters d.0.parameters.items (parameters_in (view_rule (token_of tree) r)) (as_many t.texts d.0.parameters.items (parameters_in (view_rule (token_of tree) r)) d.2.parameters) (has_some d.0.parameters.items) refl in
-          subst (λ o. IsLeast (HasBadRoot z) (bad_by (token_of tree) (is_group_there s.kinds k) o (Some r))) (sym d.1) (one_bad n rooted (view_rule (token_of tree) r) f (is_group_there s.kinds k) (has_some d.0.parameters.items) (sym group) some.0 some.1)
+      nothing : (d : Option Definition) → None ≡ bad_by (is_group_there s.kinds k) d None
+      nothing None = refl
+      nothing (Some d) = refl
 
-      by : (o : Option ℕ) → first_rule (rules z) n ≡ at_place (map (view_rule (token_of tree)) tree.rules.items) o → IsLeast (HasBadRoot z) (bad_first (token_of tree) (is_group_there s.kinds k) s.definitions.items tree.rules.items o)
+      there : (p : ℕ) (o : Option S.Rule) → slice_get (rules z) p ≡ o → first_rule (rules z) n ≡ o → IsLeast (HasBadRoot z) (bad_by (is_group_there s.kinds k) (slice_get s.definitions.items p) (start_in o))
+      there p None h f = subst (λ d. IsLeast (HasBadRoot z) d) (nothing (slice_get s.definitions.items p)) (none_bad n rooted f)
+      there p (Some r) h f =
+          let d = definition_at t s.definitions.items (definitions z) p (definition_of r) text_read (rule_there (rules z) p r h) in
+          let some = some_parameters d.0.parameters.items (parameters_in r) (as_many t.texts d.0.parameters.items (parameters_in r) d.2.parameters) (has_some d.0.parameters.items) refl in
+          subst (λ o. IsLeast (HasBadRoot z) (bad_by (is_group_there s.kinds k) o (Some (name_at r)))) (sym d.1) (one_bad n rooted r f (is_group_there s.kinds k) (has_some d.0.parameters.items) (sym group) some.0 some.1)
+
+      by : (o : Option ℕ) → first_rule (rules z) n ≡ at_place (rules z) o → IsLeast (HasBadRoot z) (bad_first (is_group_there s.kinds k) s.definitions.items s.starts.items o)
       by None f = none_bad n rooted f
-      by (Some p) f = there p (slice_get tree.rules.items p) refl (f ∙ mapped_there tree.rules.items p)
+      by (Some p) f =
+          subst (λ o. IsLeast (HasBadRoot z) (bad_by (is_group_there s.kinds k) (slice_get s.definitions.items p) o)) (sym (ap (λ ks. slice_get ks p) (is.starts_found ∙ ap (map name_at) here) ∙ starts_there (rules z) p)) (there p (slice_get (rules z) p) refl f)
 
   pub no_bad : HasNoRoot z 0 → (p : ℕ) → HasBadRoot z p → ⊥
   no_bad (no_rule e f) p b = none b.root (sym e ∙ b.rooted)

@@ -1,28 +1,60 @@
 -- Rules, their definitions, and what is asked of one after the other.
-use Rattle.std.proofs.Common.{◌≡◌, ◌⊎◌, inl, inr, ℕ, zero, suc, ◌+◌, ◌<◌, ◌≤◌, min, List, [], ◌∷◌, ◌++◌, length, map, get_or, Option, Some, None, refl, sym, ap, subst, ◌∙◌, append_assoc, slice_get, drop, arith}
+use Rattle.std.proofs.Common.{◌≡◌, ◌⊎◌, inl, inr, ℕ, zero, suc, ◌+◌, ◌<◌, ◌≤◌, min, List, [], ◌∷◌, length, map, get_or, Option, Some, None, refl, sym, ap, subst, ◌∙◌, slice_get, drop, arith}
 use Rattle.std.proofs.Math.ListN.{drop_of_length-le}
-use Rattle.std.proofs.Math.Seq.{drop-cons}
+use Rattle.std.proofs.lemmas.List.{length-map}
+use Rattle.std.proofs.lemmas.Option.{get_or_from_slice_get, slice_get_within}
+use Rattle.std.specs.Global.{Vec}
 use Rattle.std.specs.List.{Contains}
-use Rattle.std.proofs.lemmas.List.{append-nil}
-use Rattle.cddl_token.specs.declared.Token.{Token}
+use Rattle.lists.proofs.Lemmas.{next_drop, same_some}
 use Rattle.tree_nodes.specs.Syntax.Syntax as S
 use Rattle.cddl_language.specs.Terms as L
-use Rattle.cddl_language.specs.Reading.{rule_list, rules_of}
+use Rattle.cddl_language.specs.Reading.{definition_of, definitions_in, name_at}
 use Rattle.check_terms.specs.declared.definition.Definition.{Definition}
 use Rattle.check_terms.specs.Definitions.{AreDefinitions, no_definitions, further_definition, AreTexts, no_texts, further_text, IsDefinition}
 use Rattle.check_terms.specs.Table.{Table}
-use Rattle.tree_nodes.specs.declared.tree.Leaf.{Leaf}
-use Rattle.tree_nodes.specs.declared.tree.Rule.{Rule}
-use Rattle.tree_nodes.specs.declared.tree.Tree.{Tree}
-use Rattle.tree_nodes.specs.View.{token_of, view, view_rule, with_rules}
+use Rattle.check_names.specs.Environment.Places.{lists}
+use Rattle.check_reading.specs.Survey.Survey.{parameters_at}
 use Rattle.lists.specs.Least.{lesser_of}
 
-rule_list_with : (read : Leaf → Token) (rs : S.Rules) (xs : List Rule) → rule_list (with_rules read rs xs) ≡ rule_list rs ++ map (view_rule read) xs
-rule_list_with read rs [] = sym (append-nil (rule_list rs))
-rule_list_with read rs (x ∷ xs) = rule_list_with read (S.rules rs (view_rule read x)) xs ∙ append_assoc (rule_list rs) (view_rule read x ∷ []) (map (view_rule read) xs)
+-- the rule at a place, by where it begins
+pub rule_at : (rs : List S.Rule) (starts : List ℕ) (i at : ℕ) → starts ≡ map name_at rs → slice_get starts i ≡ Some at → (r : S.Rule) × (slice_get rs i ≡ Some r) × (at ≡ name_at r)
+rule_at rs starts i at e h = by rs i (subst (λ ks. slice_get ks i ≡ Some at) e h)
+  where
+    by : (rs : List S.Rule) (i : ℕ) → slice_get (map name_at rs) i ≡ Some at → (r : S.Rule) × (slice_get rs i ≡ Some r) × (at ≡ name_at r)
+    by [] i h = cc
+    by (r ∷ rs) zero h = (r, refl, same_some (sym h))
+    by (r ∷ rs) (suc i) h = by rs i h
 
-pub rules_view : (t : Tree) → rules_of (view t) ≡ map (view_rule (token_of t)) t.rules.items
-rules_view t = rule_list_with (token_of t) S.no_rules t.rules.items
+-- what is left of the rules from its place on
+pub rest_of : (rs : List S.Rule) (i : ℕ) (r : S.Rule) → slice_get rs i ≡ Some r → drop i rs ≡ r ∷ drop (i + 1) rs
+rest_of rs i r e = next_drop rs i r (slice_get_within rs i r e) (sym (get_or_from_slice_get rs i r r e))
+
+pub none_left : (rs : List S.Rule) (starts : List ℕ) (i : ℕ) → starts ≡ map name_at rs → length starts ≤ i → drop i rs ≡ []
+none_left rs starts i e h = drop_of_length-le rs (subst (λ n. n ≤ i) (ap length e ∙ length-map rs name_at) h)
+
+-- the definition of the rule at a place
+pub rule_there : (rs : List S.Rule) (p : ℕ) (r : S.Rule) → slice_get rs p ≡ Some r → slice_get (definitions_in rs) p ≡ Some (definition_of r)
+rule_there [] p r e = cc
+rule_there (q ∷ rs) zero r e = ap definition_there e
+  where
+    definition_there : Option S.Rule → Option L.Definition
+    definition_there (Some x) = Some (definition_of x)
+    definition_there None = None
+rule_there (q ∷ rs) (suc p) r e = rule_there rs p r e
+
+-- the offsets of its parameters
+
+heads : {A : Type 0} {x y : A} {xs ys : List A} → x ∷ xs ≡ y ∷ ys → x ≡ y
+heads e = cc
+
+tails : {A : Type 0} {x y : A} {xs ys : List A} → x ∷ xs ≡ y ∷ ys → xs ≡ ys
+tails e = cc
+
+pub parameters_there : (rs : List S.Rule) (vs : List (Vec ℕ)) (p : ℕ) (r : S.Rule) → lists vs ≡ map parameters_at rs → slice_get rs p ≡ Some r → (v : Vec ℕ) × (slice_get vs p ≡ Some v) × (v.items ≡ parameters_at r)
+parameters_there [] vs p r e f = cc
+parameters_there (q ∷ rs) [] p r e f = cc
+parameters_there (q ∷ rs) (v ∷ vs) zero r e f = (v, refl, heads e ∙ ap parameters_at (same_some f))
+parameters_there (q ∷ rs) (v ∷ vs) (suc p) r e f = parameters_there rs vs p r (tails e) f
 
 -- What a list contains.
 
@@ -87,13 +119,3 @@ definition_at t (d ∷ ds) (y ∷ ys) zero x (further_definition h hs) e = (d, r
     one : (y x : L.Definition) → Some y ≡ Some x → y ≡ x
     one y x e = cc
 definition_at t (d ∷ ds) (y ∷ ys) (suc p) x (further_definition h hs) e = definition_at t ds ys p x hs e
-
--- What is left of a list of definitions, which is read through a reference.
-pub next_drop : (all items : List Definition) (i : ℕ) (d : Definition) → items ≡ all → i < length items → d ≡ get_or items i d → drop i all ≡ d ∷ drop (i + 1) all
-next_drop all items i d e h f = subst (λ ys. drop i ys ≡ d ∷ drop (i + 1) ys) e (drop-cons items i d h ∙ ap (λ (x : Definition). x ∷ drop (suc i) items) (sym f) ∙ ap (λ j. d ∷ drop j items) step)
-  where
-    step : suc i ≡ i + 1
-    step = omega arith
-
-pub none_left : (all items : List Definition) (i : ℕ) → items ≡ all → length items ≤ i → drop i all ≡ []
-none_left all items i e h = subst (λ ys. drop i ys ≡ []) e (drop_of_length-le items h)

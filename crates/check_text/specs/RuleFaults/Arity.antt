@@ -1,17 +1,12 @@
 -- Definitions with another number of parameters than their name has.
-use Rattle.std.specs.Prelude.{◌≡◌, ◌≢◌, ℕ, ◌+◌, nat_eq, if◌then◌else◌, List, [], ◌∷◌, length, Contains, Option, Some, None, slice_get}
-use Rattle.cddl_token.specs.declared.Token.{Token}
+use Rattle.std.specs.Prelude.{◌≡◌, ◌≢◌, ℕ, nat_eq, if◌then◌else◌, List, length, Contains, Option, Some, None, slice_get}
 use Rattle.tree_nodes.specs.Syntax.Syntax as S
 use Rattle.cddl_language.specs.Terms as L
 use Rattle.cddl_language.specs.Faults.{Specification, definitions, parameter_count, rules}
 use Rattle.cddl_language.specs.Reading.{name_at, name_in, parameters_in}
-use Rattle.tree_nodes.specs.declared.tree.Leaf.{Leaf}
-use Rattle.tree_nodes.specs.declared.tree.Rule.{Rule}
-use Rattle.tree_nodes.specs.View.{view_rule}
 use Rattle.check_terms.specs.declared.definition.Definition.{Definition}
 use Rattle.check_names.specs.declared.environment.environment.Name.{Name}
 use Rattle.check_names.specs.Environment.Names.{Standing, standing}
-use Rattle.lists.specs.Least.{lesser_of}
 
 -- The part of C4 that is told at rules (`by_rule` of `HasWrongArity`).
 pub record HasWrongArityAtRule (s : Specification) (at : ℕ) : Type 0 where
@@ -54,11 +49,5 @@ abbrev pub told_unless : ℕ → Option ℕ → ℕ → Option ℕ
 told_unless own None at = None
 told_unless own (Some count) at = if nat_eq own count then None else Some at
 
-abbrev pub arity_at : (Leaf → Token) → List Definition → List Name → Option Rule → Definition → Option ℕ
-arity_at read ds names None d = None
-arity_at read ds names (Some r) d = told_unless (length d.parameters.items) (count_there ds (slice_get names d.name)) (name_at (view_rule read r))
-
--- of these definitions, of which the first is of the rule of the place i
-abbrev pub arities : (Leaf → Token) → List Definition → List Name → List Rule → ℕ → List Definition → Option ℕ
-arities read ds names rs i [] = None
-arities read ds names rs i (d ∷ further) = lesser_of (arity_at read ds names (slice_get rs i) d) (arities read ds names rs (i + 1) further)
+abbrev pub arity_at : List Definition → List Name → Definition → ℕ → Option ℕ
+arity_at ds names d at = told_unless (length d.parameters.items) (count_there ds (slice_get names d.name)) at

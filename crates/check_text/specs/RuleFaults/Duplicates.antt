@@ -1,5 +1,5 @@
 -- Names that are defined twice, and parameters that stand twice in one list.
-use Rattle.std.specs.Prelude.{◌≡◌, ◌≢◌, ℕ, ◌<◌, nat_eq, Bool, true, false, not, if◌then◌else◌, ◌&&◌, List, ◌∷◌, map, Option, Some, None, slice_get}
+use Rattle.std.specs.Prelude.{◌≡◌, ◌≢◌, ℕ, ◌<◌, nat_eq, Bool, true, false, not, if◌then◌else◌, ◌&&◌, List, Option, Some, None, slice_get}
 use Rattle.std.specs.List.{list_any}
 use Rattle.cddl_token.specs.declared.Token.{Token}
 use Rattle.tree_nodes.specs.Syntax.Syntax as S
@@ -13,26 +13,21 @@ use Rattle.check_terms.specs.declared.definition.Sign.{Sign}
 use Rattle.check_terms.specs.declared.definition.Sign.TheVariants as SignV
 use Rattle.check_names.specs.declared.environment.environment.Name.{Name}
 use Rattle.check_names.specs.Environment.Places.{is_equals}
-use Rattle.tree_nodes.specs.declared.tree.GenericParm.{GenericParm}
-use Rattle.tree_nodes.specs.declared.tree.Leaf.{Leaf}
-use Rattle.tree_nodes.specs.declared.tree.Parameter.{Parameter}
 
 -- the fault of one rule of these
 pub data IsDuplicateAt (rs : List S.Rule) (r : S.Rule) (at : ℕ) : Type 0 where
   other_equals : {q : S.Rule} → E.is_equals (sign_of r) ≡ true → F.first_equals rs (name_in r) ≡ Some q → definition_of r ≢ definition_of q → at ≡ name_at r → IsDuplicateAt rs r at
   parameter_twice : {t u : Token} {j k : ℕ} → j < k → slice_get (parameter_tokens (rule_head r)) j ≡ Some t → slice_get (parameter_tokens (rule_head r)) k ≡ Some u → text_of t ≡ text_of u → at ≡ u.start → IsDuplicateAt rs r at
 
--- one of these numbers stands before, too, and its token begins there
-pub record IsRepeated (ns : List ℕ) (ts : List Token) (at : ℕ) : Type 0 where
+-- one of these numbers stands before, too, and this is its offset, of these
+pub record IsRepeated (ns offsets : List ℕ) (at : ℕ) : Type 0 where
   pub earlier : ℕ
   pub later : ℕ
   pub number : ℕ
-  pub token : Token
   pub before : earlier < later
   pub first : slice_get ns earlier ≡ Some number
   pub second : slice_get ns later ≡ Some number
-  pub there : slice_get ts later ≡ Some token
-  pub offset : at ≡ token.start
+  pub there : slice_get offsets later ≡ Some at
 
 -- What the code finds.
 
@@ -68,23 +63,5 @@ other_equals_by ds names d at = if is_equals d.sign && differs ds d (first_place
 abbrev pub is_among : ℕ → List ℕ → Bool
 is_among k ns = list_any (λ n. nat_eq k n) ns
 
-abbrev pub start_there : Option Token → Option ℕ
-start_there None = None
-start_there (Some t) = Some t.start
-
-abbrev pub told_again : Bool → Option Token → Option ℕ
-told_again new o = if new then None else start_there o
-
-abbrev pub further_name : Parameter → Leaf
-further_name p = p.name
-
-abbrev pub further_leaf : Option Parameter → Option Leaf
-further_leaf None = None
-further_leaf (Some p) = Some p.name
-
-abbrev pub leaves_of : GenericParm → List Leaf
-leaves_of p = p.first ∷ map further_name p.others.items
-
-abbrev pub leaf_start : (Leaf → Token) → Option Leaf → Option ℕ
-leaf_start read None = None
-leaf_start read (Some l) = Some (read l).start
+abbrev pub told_again : Bool → Option ℕ → Option ℕ
+told_again new o = if new then None else o

@@ -1,12 +1,7 @@
 -- The root of a text.
 use Rattle.std.specs.Prelude.{ℕ, Bool, true, false, if◌then◌else◌, ◌||◌, List, [], ◌∷◌, Option, Some, None, slice_get}
-use Rattle.cddl_token.specs.declared.Token.{Token}
 use Rattle.cddl_language.specs.Terms.{Text}
-use Rattle.cddl_language.specs.Reading.{name_at}
 use Rattle.cddl_language.specs.Environment.{is_same}
-use Rattle.tree_nodes.specs.declared.tree.Leaf.{Leaf}
-use Rattle.tree_nodes.specs.declared.tree.Rule.{Rule}
-use Rattle.tree_nodes.specs.View.{view_rule}
 use Rattle.check_terms.specs.declared.definition.Definition.{Definition}
 use Rattle.check_names.specs.declared.environment.environment.Name.{Name}
 use Rattle.check_names.specs.Kinds.Kinds.{is_group_there}
@@ -37,14 +32,14 @@ has_some [] = false
 has_some (k ∷ ks) = true
 
 -- the offset of the rule, where its name is a group's or has parameters
-abbrev pub bad_by : (Leaf → Token) → Bool → Option Definition → Option Rule → Option ℕ
-bad_by read group (Some d) (Some r) = if group || has_some d.parameters.items then Some (name_at (view_rule read r)) else None
-bad_by read group _ _ = None
+abbrev pub bad_by : Bool → Option Definition → Option ℕ → Option ℕ
+bad_by group (Some d) (Some at) = if group || has_some d.parameters.items then Some at else None
+bad_by group _ _ = None
 
-abbrev pub bad_first : (Leaf → Token) → Bool → List Definition → List Rule → Option ℕ → Option ℕ
-bad_first read group ds rs None = None
-bad_first read group ds rs (Some p) = bad_by read group (slice_get ds p) (slice_get rs p)
+abbrev pub bad_first : Bool → List Definition → List ℕ → Option ℕ → Option ℕ
+bad_first group ds starts None = None
+bad_first group ds starts (Some p) = bad_by group (slice_get ds p) (slice_get starts p)
 
-abbrev pub bad_at : (Leaf → Token) → Kinds → List Definition → List Rule → ℕ → Option Name → Option ℕ
-bad_at read ks ds rs k None = None
-bad_at read ks ds rs k (Some n) = bad_first read (is_group_there ks k) ds rs n.first
+abbrev pub bad_at : Kinds → List Definition → List ℕ → ℕ → Option Name → Option ℕ
+bad_at ks ds starts k None = None
+bad_at ks ds starts k (Some n) = bad_first (is_group_there ks k) ds starts n.first

@@ -103,12 +103,12 @@ fn found_offsets(
     ensures { IfOk result (λ v. (s : Specification) (worth : Values) → s.tree ≡ view tree.now → s.given ≡ option_map (λ t. t.now) given.entry → IsSurvey terms.now tree.now survey.now → AreOf (IsFaultAt s worth (code_of code)) v.items) }
 {
     match code {
-        TextCode::Duplicate => at_rules(alloc, terms, tree, survey, RuleCode::Duplicate),
-        TextCode::KindClash => at_rules(alloc, terms, tree, survey, RuleCode::KindClash),
+        TextCode::Duplicate => at_rules(alloc, terms, survey, RuleCode::Duplicate),
+        TextCode::KindClash => at_rules(alloc, terms, survey, RuleCode::KindClash),
         TextCode::Undefined => at_sites(alloc, terms, tree, survey, SiteCode::Undefined),
         TextCode::Arity => wrong_arities(alloc, terms, tree, survey),
-        TextCode::NoRoot => found_alone(alloc, no_root(terms, tree, survey, given)),
-        TextCode::BadRoot => found_alone(alloc, bad_root(terms, tree, survey, given)),
+        TextCode::NoRoot => found_alone(alloc, no_root(terms, survey, given)),
+        TextCode::BadRoot => found_alone(alloc, bad_root(terms, survey, given)),
         TextCode::GroupAsType => at_sites(alloc, terms, tree, survey, SiteCode::GroupAsType),
         TextCode::HashForm => at_sites(alloc, terms, tree, survey, SiteCode::HashForm),
         TextCode::UnknownControl => {
@@ -126,7 +126,7 @@ fn wrong_arities(
 ) -> Result<Vec<usize>, AllocError>
     ensures { IfOk result (λ v. (s : Specification) → s.tree ≡ view tree.now → IsSurvey terms.now tree.now survey.now → AreOf (HasWrongArity s) v.items) }
 {
-    let mut offsets = at_rules(alloc, terms, tree, survey, RuleCode::Arity)?;
+    let mut offsets = at_rules(alloc, terms, survey, RuleCode::Arity)?;
     let at_names = at_sites(alloc, terms, tree, survey, SiteCode::Arity)?;
     offsets.extend_from_slice(&at_names)?;
     Ok(offsets)

@@ -5,12 +5,12 @@ ghost use Rattle.cddl_language.specs.Faults.{HasBadRoot, HasNoRoot, Specificatio
 ghost use Rattle.check_text.specs.RuleFaults.Root.{bad_at, bad_by, has_some, is_text, number_of_name, root_number};
 ghost use Rattle.lists.specs.Least.{IsLeast};
 ghost use Rattle.check_reading.specs.Survey.Survey.{IsSurvey};
-ghost use Rattle.tree_nodes.specs.View.{token_of, view};
+ghost use Rattle.tree_nodes.specs.View.{view};
+ghost use Rattle.tree_nodes.specs.declared.tree.Tree.{Tree};
 
-use crate::rule_faults::start::start_of;
+use crate::rule_faults::start::start_if;
 use check_reading::survey::Survey;
 use check_terms::{Definition, Terms};
-use tree_nodes::{Rule, Tree};
 
 /// The number of the root's name: of the name that was given, if it is defined, or of that of the first rule.
 ///
@@ -49,13 +49,8 @@ fn is_text(terms: &Terms<'_>, number: u32, name: &str) -> bool
 }
 
 /// 0, where there is no root: no rule and no given name, or a given name that nothing defines.
-pub fn no_root(
-    terms: &Terms<'_>,
-    tree: &Tree<'_>,
-    survey: &Survey<'_>,
-    given: Option<&str>,
-) -> Option<usize>
-    ensures { (s : Specification) → s.tree ≡ view tree.now → s.given ≡ option_map (λ t. t.now) given.entry → IsSurvey terms.now tree.now survey.now → IsLeast (HasNoRoot s) result }
+pub fn no_root(terms: &Terms<'_>, survey: &Survey<'_>, given: Option<&str>) -> Option<usize>
+    ensures { (s : Specification) (tree : Tree) → s.tree ≡ view tree → s.given ≡ option_map (λ t. t.now) given.entry → IsSurvey terms.now tree survey.now → IsLeast (HasNoRoot s) result }
 {
     match root_of(terms, survey, given) {
         Some(_) => None,
@@ -64,37 +59,28 @@ pub fn no_root(
 }
 
 /// The offset of the first definition of the root's name, where the root is a group or has parameters.
-pub fn bad_root(
-    terms: &Terms<'_>,
-    tree: &Tree<'_>,
-    survey: &Survey<'_>,
-    given: Option<&str>,
-) -> Option<usize>
-    ensures { (s : Specification) → s.tree ≡ view tree.now → s.given ≡ option_map (λ t. t.now) given.entry → IsSurvey terms.now tree.now survey.now → IsLeast (HasBadRoot s) result }
+pub fn bad_root(terms: &Terms<'_>, survey: &Survey<'_>, given: Option<&str>) -> Option<usize>
+    ensures { (s : Specification) (tree : Tree) → s.tree ≡ view tree → s.given ≡ option_map (λ t. t.now) given.entry → IsSurvey terms.now tree survey.now → IsLeast (HasBadRoot s) result }
 {
     match root_of(terms, survey, given) {
-        Some(root) => bad_root_at(tree, survey, root),
+        Some(root) => bad_root_at(survey, root),
         None => None,
     }
 }
 
-fn bad_root_at(tree: &Tree<'_>, survey: &Survey<'_>, root: u32) -> Option<usize>
-    ensures { result ≡ bad_at (token_of tree.now) survey.now.kinds survey.now.definitions.items tree.now.rules.items root (slice_get survey.now.names.items root) }
+fn bad_root_at(survey: &Survey<'_>, root: u32) -> Option<usize>
+    ensures { result ≡ bad_at survey.now.kinds survey.now.definitions.items survey.now.starts.items root (slice_get survey.now.names.items root) }
 {
     let place = survey.names.get(root as usize)?.first?;
     let definition = survey.definitions.get(place)?;
-    let rule = tree.rules.get(place)?;
-    bad_rule(tree, survey.kinds.is_group(root), definition, rule)
+    let start = survey.starts.get(place)?;
+    bad_rule(survey.kinds.is_group(root), definition, *start)
 }
 
-fn bad_rule(tree: &Tree<'_>, is_group: bool, definition: &Definition, rule: &Rule) -> Option<usize>
-    ensures { result ≡ bad_by (token_of tree.now) is_group (Some definition.now) (Some rule.now) }
+fn bad_rule(is_group: bool, definition: &Definition, start: usize) -> Option<usize>
+    ensures { result ≡ bad_by is_group (Some definition.now) (Some start) }
 {
-    if is_group || has_some(&definition.parameters) {
-        Some(start_of(tree, rule))
-    } else {
-        None
-    }
+    start_if(start, is_group || has_some(&definition.parameters))
 }
 
 fn has_some(parameters: &[u32]) -> bool

@@ -6,4 +6,4 @@ use Rattle.check_text.proofs.Firsts.{joined}
 use Rattle.check_text.proofs.text.rule_fault.Goals as goal
 
 pub returns : goal.returns
-returns c s worth e is = subst (IsFirst (IsFaultAt s worth) (Duplicate ∷ KindClash ∷ [])) (sym c.first_of.ensures) (joined (IsFaultAt s worth) (Duplicate ∷ []) (KindClash ∷ []) _ _ (c.fault_of-twice.ensures s worth (c.in_ok-duplicate.ensures s e is)) (c.fault_of-clash.ensures s worth (c.kind_clash.ensures s e is)))
+returns c s worth tree e is = subst (IsFirst (IsFaultAt s worth) (Duplicate ∷ KindClash ∷ [])) (sym c.first_of.ensures) (joined (IsFaultAt s worth) (Duplicate ∷ []) (KindClash ∷ []) _ _ (c.fault_of-twice.ensures s worth (c.in_ok-duplicate.ensures s tree e is)) (c.fault_of-clash.ensures s worth (c.kind_clash.ensures s tree e is)))

@@ -15,6 +15,7 @@ returns-clause-survey c =
       names_stand = λ k n v e f. c.names_stand.ensures t _ k _ _ _ _ n v c.len.ensures.table known text are e f;
       kinds_found = same_kinds c.deref-3.ensures.value c.deref-4.ensures.value c.deref-5.ensures.value c.in-Ok-kinds_of.ensures known text are;
       starts_found = c.in-Ok-starts_of.ensures;
+      parameters_found = c.in-Ok-all_parameters.ensures;
       sites_found = c.in-Ok-sites.ensures.all;
       outer_found = c.in-Ok-sites.ensures.outer;
     }

@@ -1,14 +1,21 @@
-use Rattle.check_text.proofs.OfRuleFaults.Arities.{next_rule, no_more_rules, wrong_arities}
-use Rattle.check_text.proofs.OfRuleFaults.Rules.{next_drop, none_left}
-use Rattle.tree_nodes.specs.View.{token_of}
+use Rattle.std.proofs.Common.{◌∙◌}
+use Rattle.std.proofs.lemmas.Option.{slice_get-get_or}
+use Rattle.cddl_language.specs.Reading.{rules_of}
+use Rattle.tree_nodes.specs.View.{view}
+use Rattle.check_text.specs.RuleFaults.Arity.{HasOtherCount}
+use Rattle.check_reading.specs.Survey.Survey.{defined_in}
+use Rattle.check_text.proofs.OfRuleFaults.Arities.{counts}
+use Rattle.check_text.proofs.OfRuleFaults.Telling.{begins, ends, goes_on, in_rules}
 use Rattle.check_text.proofs.rule_faults.arity.wrong_arity.Goals as goal
 
+pub loop-place-init : goal.loop-place-init
+loop-place-init c tree is = begins (HasOtherCount (defined_in tree)) (rules_of (view tree))
+
 pub loop-place-preserved : goal.loop-place-preserved
-loop-place-preserved c =
-    let s = c.args.survey.now in
-    next_rule (token_of c.args.tree.now) s.definitions.items s.names.items c.args.tree.now.rules.items _ c.loop-place.place _ _ c.definition-item.result c.loop-place.least c.arity_at.result c.lesser-least.result (next_drop s.definitions.items c.deref-definition-items.result.now c.loop-place.place c.definition-item.result c.deref-definition-items.ensures.value c.loop-place-test.true c.definition-item.is) c.arity_at.ensures c.lesser-least.ensures c.loop-place.invariant
+loop-place-preserved c tree is =
+    let starts = c.deref-start-items.result.now in
+    goes_on (HasOtherCount (defined_in tree)) (rules_of (view tree)) starts c.loop-place.place _ c.loop-place.least c.other_count.result c.lesser-least.result (c.deref-start-items.ensures.value ∙ is.starts_found) (slice_get-get_or starts c.loop-place.place _ c.loop-place-test.true) (λ r there start. c.other_count.ensures c.args.terms.now tree r is there start) c.lesser-least.ensures (c.loop-place.invariant tree is)
 
 pub returns : goal.returns
-returns c z e is =
-    let s = c.args.survey.now in
-    wrong_arities c.args.terms.now c.args.tree.now s is z e c.loop-place.least (no_more_rules (token_of c.args.tree.now) s.definitions.items s.names.items c.args.tree.now.rules.items _ c.loop-place.place _ c.loop-place.least (none_left s.definitions.items c.deref-definition-items.result.now c.loop-place.place c.deref-definition-items.ensures.value c.loop-place-test.false) c.loop-place.invariant)
+returns c z tree e is =
+    counts tree z e c.loop-place.least (in_rules tree z e (HasOtherCount (defined_in tree)) c.loop-place.least (ends (HasOtherCount (defined_in tree)) (rules_of (view tree)) c.deref-start-items.result.now c.loop-place.place c.loop-place.least (c.deref-start-items.ensures.value ∙ is.starts_found) c.loop-place-test.false (c.loop-place.invariant tree is)))

@@ -1,8 +1,10 @@
-use Rattle.std.proofs.Common.{◌≡◌, drop}
-use Rattle.check_text.specs.RuleFaults.Arity.{arities}
-use Rattle.lists.specs.Least.{lesser_of}
-use Rattle.tree_nodes.specs.View.{token_of}
+use Rattle.cddl_language.specs.Reading.{rules_of}
+use Rattle.tree_nodes.specs.declared.tree.Tree.{Tree}
+use Rattle.tree_nodes.specs.View.{view}
+use Rattle.check_text.specs.RuleFaults.Arity.{HasOtherCount}
+use Rattle.check_reading.specs.Survey.Survey.{IsSurvey, defined_in}
+use Rattle.check_text.proofs.OfRuleFaults.Telling.{Goes}
 use Rattle.check_text.proofs.rule_faults.arity.wrong_arity.Given as goal
 
 abbrev pub invariant-loop-place : goal.invariant-loop-place
-invariant-loop-place l = lesser_of l.least (arities (token_of l.tree) l.survey.definitions.items l.survey.names.items l.tree.rules.items l.place (drop l.place l.survey.definitions.items)) ≡ arities (token_of l.tree) l.survey.definitions.items l.survey.names.items l.tree.rules.items 0 l.survey.definitions.items
+invariant-loop-place l = (tree : Tree) → IsSurvey l.terms tree l.survey → Goes (HasOtherCount (defined_in tree)) (rules_of (view tree)) l.place l.least
