@@ -17,7 +17,6 @@ ghost use Rattle.cddl_check.specs.Told.{IsEarly, IsTold};
 use crate::stopped::{Stopped, refused};
 use cddl_token::Code;
 use check_instances::{Found, Instance, instances};
-use check_reached::live_sites::live_sites;
 use check_reached::reached_sites;
 use check_reading::survey::Survey;
 use check_reading::survey::laws::survey_grows;
@@ -27,7 +26,6 @@ use check_terms::Terms;
 use check_text::laws::root_faults_are_told;
 use check_text::rule_faults::root_of;
 use std::alloc::Global;
-use tree_nodes::Tree;
 
 /// What the root leads to.
 #[derive(Drop)]
@@ -44,17 +42,15 @@ pub(crate) struct Instanced<'t> {
 pub(crate) fn find_instances<'t>(
     alloc: Global,
     terms: &mut Terms<'_>,
-    tree: &'t Tree<'_>,
     survey: &Survey<'t>,
     given: Option<&str>,
 ) -> Result<Instanced<'t>, Stopped>
-    ensures found { IfOk result (λ x. (s : Specification) (worth : Values) → IsGiven s worth tree.now (option_map (λ t. t.now) given.entry) → IsSurvey terms.old tree.now survey.now → IsRight s worth → (root : Text) × (refs : List Ref) × IsInstanced s root refs terms.new tree.now survey.now x) }
-    ensures stopped { IfErr result (λ e. (s : Specification) (worth : Values) → IsGiven s worth tree.now (option_map (λ t. t.now) given.entry) → IsSurvey terms.old tree.now survey.now → IsRight s worth → IsStopped s worth e) }
+    ensures found { IfOk result (λ x. (s : Specification) (worth : Values) (tree : Trees) → IsGiven s worth tree (option_map (λ t. t.now) given.entry) → IsSurvey terms.old tree survey.now → IsRight s worth → (root : Text) × (refs : List Ref) × IsInstanced s root refs terms.new tree survey.now x) }
+    ensures stopped { IfErr result (λ e. (s : Specification) (worth : Values) (tree : Trees) → IsGiven s worth tree (option_map (λ t. t.now) given.entry) → IsSurvey terms.old tree survey.now → IsRight s worth → IsStopped s worth e) }
     ensures early { IfErr result IsEarly }
 {
     survey_grows();
     root_faults_are_told();
-    let live = live_sites(alloc, terms, tree, survey)?;
     let root = root_number(terms, survey, given)?;
     let names = &survey.names;
     let found = instances(
@@ -67,7 +63,7 @@ pub(crate) fn find_instances<'t>(
     )?;
     terms.len();
     let instances = few(found)?;
-    let reached = reached_sites(alloc, terms, survey, &live, &instances)?;
+    let reached = reached_sites(alloc, terms, survey, &instances)?;
     Ok(Instanced {
         root,
         instances,

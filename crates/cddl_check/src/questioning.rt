@@ -14,9 +14,10 @@ use crate::stopped::Stopped;
 use check_reached::laws::{instances_grow, questions_grow};
 use check_reached::{Asked, entry_questions, questions};
 use check_reading::survey::Survey;
+use check_reading::survey::laws::survey_grows;
 use check_root::reached_faults::not_unwrapped;
 use check_terms::Terms;
-use check_terms::laws::growing_keeps;
+use check_terms::laws::{growing_keeps, is_table};
 use std::alloc::Global;
 use tree_nodes::Tree;
 
@@ -47,23 +48,11 @@ pub(crate) fn ask<'s>(
     growing_keeps();
     instances_grow();
     questions_grow();
+    survey_grows();
     let opens = not_unwrapped(alloc, terms, tree, survey, &instanced.reached)?;
-    let asked = questions(
-        alloc,
-        terms,
-        tree,
-        survey,
-        &instanced.reached,
-        &instanced.instances,
-    )?;
-    let entries = entry_questions(
-        alloc,
-        terms,
-        tree,
-        &survey.definitions,
-        &instanced.reached,
-        &instanced.instances,
-    )?;
+    let asked = questions(alloc, terms, survey, &instanced.instances)?;
+    is_table(terms);
+    let entries = entry_questions(alloc, terms, survey, &instanced.instances)?;
     Ok(Questions {
         asked,
         entries,

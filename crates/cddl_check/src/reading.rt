@@ -71,7 +71,7 @@ fn begin_tree<'s, 't>(
     ensures early { IfErr result (λ e. (s : Specification) (worth : Values) → IsGiven s worth tree.now (option_map (λ t. t.now) given.entry) → IsEarly e) }
 {
     let survey = clear_text(alloc, terms, tree, given)?;
-    let instanced = find_instances(alloc, terms, tree, &survey, given)?;
+    let instanced = find_instances(alloc, terms, &survey, given)?;
     Ok(Begun { survey, instanced })
 }
 

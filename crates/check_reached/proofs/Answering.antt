@@ -18,10 +18,11 @@ use Rattle.cddl_language.specs.Live.Live.{IsClear}
 use Rattle.check_sites.specs.declared.sites.site.Found.{Found}
 use Rattle.check_sites.specs.Sites.View.{view_site}
 use Rattle.check_reached.specs.Calls.{refs_named}
-use Rattle.check_reached.specs.Reached.{AreReachedSites}
+use Rattle.check_live.specs.Live.{AreLive}
 use Rattle.check_reached.specs.declared.asked.Asked.{Asked}
-use Rattle.check_reached.specs.declared.asked.Question.TheVariants as QuestionV
-use Rattle.check_reached.specs.Asked.{AreAnswers, no_answers, further_answer, AreAsked, IsAnswer, IsAsked, choosing, choosing_by_name, computation, controller, first_end, last_end, left_operand, of_map, members_controller, Wanted, WasAsked, comparand_question, computation_wanted, controller_wanted, end_of, first_part, last_part, members_question, operand_question, operand_wanted, question_of_operand, wanted_all, wanted_at, wanted_by, wanted_each, wanted_in, wanted_some, wanted_there}
+use Rattle.check_reading.specs.declared.parts.part.Question.TheVariants as QuestionV
+use Rattle.check_reached.specs.Asked.{AreAnswers, no_answers, further_answer, AreAsked, IsAnswer, IsAsked, choosing, choosing_by_name, computation, controller, first_end, last_end, left_operand, of_map, members_controller, WasAsked, wanted_all, wanted_at, wanted_by, wanted_each, wanted_in, wanted_some, wanted_there}
+use Rattle.check_reading.specs.Parts.{Wanted, comparand_question, computation_wanted, controller_wanted, end_of, first_part, last_part, members_question, operand_question, operand_wanted, question_of_operand}
 use Rattle.check_reached.proofs.Lists.{IsIn, contained_place, contains, in_either, in_first, in_second, is_in}
 use Rattle.check_reached.proofs.Reaching.{Laws, instance_of, ref_of_instance}
 
@@ -203,16 +204,17 @@ whole_computation x y (S.control t) c e = by (control_of (control_name t)) e
     by (Some (member m)) g = cc
     by (Some (computed d)) g = refl
 
-module _ (laws : Laws) (trees : Trees) (s : Specification) (root : Text) (clear : IsClear s) (refs : List Ref) (are : AreInstances (definitions s) root refs) (read : Leaf → Token) (fs : List Found) (reached : AreReachedSites (rules s) root read fs) (t : Table) (answers : List Asked) (all : AreAnswers t answers (wanted_all read (rules s) refs fs)) where
+module _ (laws : Laws) (trees : Trees) (s : Specification) (root : Text) (clear : IsClear s) (refs : List Ref) (are : AreInstances (definitions s) root refs) (read : Leaf → Token) (fs : List Found) (live : AreLive (rules s) read fs) (t : Table) (answers : List Asked) (all : AreAnswers t answers (wanted_all read (rules s) refs fs)) where
   sound : (a : Asked) → IsIn a answers → IsAsked (rules s) root t a
   sound a h =
       let w = answer_of t answers (wanted_all read (rules s) refs fs) a all h in
       let f = in_all (wanted_at read (rules s) refs) fs w.0 w.1.0 in
-      let so = reached.sound f.0 (contains fs f.0 f.1.0) in
+      let so = live.sound f.0 (contains fs f.0 f.1.0) in
+      let r = so.0 in
       let p = view_site read f.0.site in
-      let named = refs_named (name_in so.rule) refs in
-      let there = subst (λ o. IsIn w.0 (wanted_there refs o p)) so.place f.1.1 in
-      by so.rule p (λ i k. laws.reached s root clear so.rule i p (instance_of laws s root clear refs are f.0.rule so.rule i so.place k) (laws.live (rules s) root so.rule so.arguments p so.reached)) w.0 w.1.1 (in_either (wanted_some (parameters_in so.rule) (first_part p) named) (wanted_some (parameters_in so.rule) (last_part p) named) w.0 there)
+      let named = refs_named (name_in r) refs in
+      let there = subst (λ o. IsIn w.0 (wanted_there refs o p)) so.1.0 f.1.1 in
+      by r p (λ i k. laws.reached s root clear r i p (instance_of laws s root clear refs are f.0.rule r i so.1.0 k) so.1.1) w.0 w.1.1 (in_either (wanted_some (parameters_in r) (first_part p) named) (wanted_some (parameters_in r) (last_part p) named) w.0 there)
     where
       by : (r : S.Rule) (p : Site) → ((i : Ref) → IsIn i (refs_named (name_in r) refs) → IsReached (rules s) root r (arguments_of i) p) → (w : Wanted) → IsAnswer t a w → IsIn w (wanted_some (parameters_in r) (first_part p) (refs_named (name_in r) refs)) ⊎ IsIn w (wanted_some (parameters_in r) (last_part p) (refs_named (name_in r) refs)) → IsAsked (rules s) root t a
       by r p reach w k (inl m) = asked_first trees (rules s) root t r (refs_named (name_in r) refs) p reach a w m k
@@ -222,13 +224,13 @@ module _ (laws : Laws) (trees : Trees) (s : Specification) (root : Text) (clear 
   was_asked r xs p w x h part same =
       let i = laws.instance (rules s) root r xs p h in
       let k = contained_place (rules s) r i.1.0.present in
-      let f = reached.complete k.0 r xs p k.1 h in
+      let f = live.complete k.0 r p k.1 (laws.live (rules s) root r xs p h) in
       let named = refs_named (name_in r) refs in
       let v = wanted_in (parameters_in r) w i.0 in
       let one = each_in (parameters_in r) w named i.0 (ref_of_instance laws s root clear refs are r i.0 i.1.0) in
-      let site = subst (λ q. IsIn v (wanted_there refs (Some r) q)) (sym f.same) (in_part (parameters_in r) p w named v part one) in
-      let at = subst (λ o. IsIn v (wanted_there refs o (view_site read f.found.site))) (sym (ap (slice_get (rules s)) f.place ∙ k.1)) site in
-      let a = wanted_answer t answers (wanted_all read (rules s) refs fs) v all (all_in (wanted_at read (rules s) refs) fs v f.found (is_in fs f.found f.contained) at) in
+      let site = subst (λ q. IsIn v (wanted_there refs (Some r) q)) (sym f.1.1.1) (in_part (parameters_in r) p w named v part one) in
+      let at = subst (λ o. IsIn v (wanted_there refs o (view_site read f.0.site))) (sym (ap (slice_get (rules s)) f.1.1.0 ∙ k.1)) site in
+      let a = wanted_answer t answers (wanted_all read (rules s) refs fs) v all (all_in (wanted_at read (rules s) refs) fs v f.0 (is_in fs f.0 f.1.0) at) in
       record { asked = a.0; contained = contains answers a.0 a.1.0; same_at = a.1.1.at; same_question = a.1.1.question; holds = subst (Holds t (Some a.0.row)) (ap (λ ys. filled (parameters_in r) (term_trees ys) w.tree) (sym i.1.1) ∙ same) a.1.1.holds }
 
   pub are_asked : AreAsked (rules s) root t answers

@@ -12,10 +12,10 @@ use Rattle.check_terms.specs.Table.{Holds, Table, Tree}
 use Rattle.check_terms.specs.Trees.{IsRef, ref_tree}
 use Rattle.check_terms.specs.Fill.Slots.{ArePlacesOf}
 use Rattle.check_terms.specs.Fill.Templates.{AreTrees, further_tree}
-use Rattle.cddl_language.specs.Sites.{Site}
 use Rattle.check_reached.specs.Calls.{refs_named}
 use Rattle.check_reached.specs.declared.asked.Asked.{Asked}
-use Rattle.check_reached.specs.Asked.{AreAnswers, no_answers, further_answer, AreReady, IsAnswer, IsReady, Wanted, first_part, last_part, wanted_by, wanted_one, wanted_each, wanted_in, wanted_some, wanted_there}
+use Rattle.check_reached.specs.Asked.{AreAnswers, no_answers, further_answer, AreReady, IsAnswer, IsReady, wanted_by, wanted_one, wanted_each, wanted_in}
+use Rattle.check_reading.specs.Parts.{Wanted}
 use Rattle.check_reached.specs.Runs.{AreCalls, no_calls, further_call, IsCall, IsRunFor, IsRunOf}
 use Rattle.check_reached.specs.declared.runs.Call.{Call}
 use Rattle.check_reached.specs.declared.runs.Run.{Run}
@@ -110,7 +110,7 @@ all_filled t ps w refs ws left answers none so = by so.after so.whole (subst (λ
     by [] e h = subst (λ rs. AreAnswers t answers (ws ++ wanted_each ps w rs)) (sym (e ∙ none_more so.before)) so.are_done
     by (r ∷ rs) e h = elim h [ ]
 
--- Some sites or entries are served, and these are left.
+-- Some parts are served, and these are left.
 module _ (A : Type 0) (of : A → List Wanted) (all : List A) where
   pub record IsGoing (t : Table) (left : List A) (answers : List Asked) : Type 0 where
     pub before : List Wanted
@@ -212,18 +212,8 @@ module _ (t : Table) (rs : List S.Rule) (refs : List Ref) (ls : List (List ℕ))
             calls = calls named (subst (λ ns. AreTrees t ns (map ref_tree named)) rows_there w.trees);
           }
 
--- What one site adds, and what one entry does.
+-- What one part adds.
 module _ (t new : Table) (refs : List Ref) (run : Run) (answers more : List Asked) (ws : List Wanted) where
-  none_wanted : (o q : Option Wanted) → wanted_some [] o [] ++ wanted_some [] q [] ≡ []
-  none_wanted None None = refl
-  none_wanted None (Some w) = refl
-  none_wanted (Some v) None = refl
-  none_wanted (Some v) (Some w) = refl
-
-  pub site_asked : (p : Site) (o : Option S.Rule) → IsRunFor t refs o run → ((ps : List Text) (qs : List Ref) (vs : List Wanted) → IsRunOf t ps qs run → AreAnswers t answers vs → AreAnswers new more (vs ++ (wanted_some ps (first_part p) qs ++ wanted_some ps (last_part p) qs))) → AreAnswers t answers ws → AreAnswers new more (ws ++ wanted_there refs o p)
-  site_asked p None is one so = subst (λ (vs : List Wanted). AreAnswers new more (ws ++ vs)) (none_wanted (first_part p) (last_part p)) (one [] [] ws is so)
-  site_asked p (Some r) is one so = one (parameters_in r) (refs_named (name_in r) refs) ws is so
-
   pub part_asked : (w : Wanted) (o : Option S.Rule) → IsRunFor t refs o run → ((ps : List Text) (qs : List Ref) (vs : List Wanted) → IsRunOf t ps qs run → AreAnswers t answers vs → AreAnswers new more (vs ++ wanted_each ps w qs)) → AreAnswers t answers ws → AreAnswers new more (ws ++ wanted_one refs o w)
   part_asked w None is one so = one [] [] ws is so
   part_asked w (Some r) is one so = one (parameters_in r) (refs_named (name_in r) refs) ws is so

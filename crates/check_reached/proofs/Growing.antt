@@ -15,7 +15,7 @@ use Rattle.check_instances.specs.Bodies.{AreBodies, no_bodies, further_body}
 use Rattle.check_instances.specs.Found.{AreFound, none_found, further_found}
 use Rattle.check_reached.specs.Asked.{AreAsked, AreEntriesAsked, IsAsked, IsEntryAsked, WasAsked, choosing, choosing_by_name, computation, controller, first_end, last_end, left_operand, members_controller, of_map, of_map_entry, of_rule_entry}
 use Rattle.check_reached.specs.declared.asked.Asked.{Asked}
-use Rattle.check_reached.specs.declared.asked.Question.{Question}
+use Rattle.check_reading.specs.declared.parts.part.Question.{Question}
 
 module _ (old new : Table) (trees : (n : Option ℕ) (x : Tree) → Holds old n x → Holds new n x) (body : (b : Body) (x : L.Body) → IsBody old b x → IsBody new b x) where
   bodies_kept : (bs : List Body) (xs : List L.Body) → AreBodies old bs xs → AreBodies new bs xs

@@ -4,6 +4,6 @@ pub mod Growing
 pub mod Listing
 pub mod Lists
 pub mod Named
+pub mod Parting
 pub mod Placing
 pub mod Reaching
-mod OfLiveSites

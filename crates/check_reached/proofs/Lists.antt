@@ -52,15 +52,5 @@ module _ {A : Type 0} where
       step : suc i ≡ i + 1
       step = omega arith
 
-  -- a list that has what another has, at the same places, and is as long, is that list
-  pub same_list : (xs ys : List A) → ((k : ℕ) (x : A) → slice_get xs k ≡ Some x → slice_get ys k ≡ Some x) → length ys ≡ length xs → ys ≡ xs
-  same_list [] [] h e = refl
-  same_list [] (y ∷ ys) h e = absurd (omega (arith, e))
-  same_list (x ∷ xs) [] h e = absurd (omega (arith, e))
-  same_list (x ∷ xs) (y ∷ ys) h e =
-      let first : Some y ≡ Some x = h 0 x refl in
-      let rest : ys ≡ xs = same_list xs ys (λ k z f. h (suc k) z f) (omega (arith, e)) in
-      cc
-
   pub one_of : (o : Option A) (x y : A) → o ≡ Some x → o ≡ Some y → x ≡ y
   one_of o x y e f = cc

@@ -12,17 +12,18 @@ use Rattle.cddl_language.specs.StandsFor.{AreInstances}
 use Rattle.cddl_language.specs.Terms.{Ref, Term, Text, arguments_of}
 use Rattle.check_terms.specs.Table.{Holds, Table}
 use Rattle.check_terms.specs.Trees.{IsEntry, entry_tree}
-use Rattle.cddl_language.specs.Live.Live.{IsClear}
+use Rattle.cddl_language.specs.Live.Live.{IsClear, IsLive}
 use Rattle.check_sites.specs.declared.sites.site.Found.{Found}
 use Rattle.check_sites.specs.declared.entries.entry.Holder.{Holder}
 use Rattle.check_sites.specs.declared.entries.entry.Holder.TheVariants as HolderV
 use Rattle.check_sites.specs.declared.entries.entry.TextEntry.{TextEntry}
 use Rattle.check_sites.specs.Entries.Entries.{AreEntries, Stands, group_inside, in_map, in_opened, in_rule, view_node}
 use Rattle.check_reached.specs.Calls.{refs_named}
-use Rattle.check_reached.specs.Reached.{AreReachedSites}
+use Rattle.check_live.specs.Live.{AreLive}
 use Rattle.check_reached.specs.declared.asked.Asked.{Asked}
-use Rattle.check_reached.specs.declared.asked.Question.TheVariants as QuestionV
-use Rattle.check_reached.specs.Asked.{AreAnswers, AreEntriesAsked, IsAnswer, IsEntryAsked, Wanted, WasAsked, WasAskedIn, entry_wanted, held_inside, of_map_entry, of_rule_entry, wanted_entries, wanted_entry, wanted_in, wanted_one}
+use Rattle.check_reading.specs.declared.parts.part.Question.TheVariants as QuestionV
+use Rattle.check_reached.specs.Asked.{AreAnswers, AreEntriesAsked, IsAnswer, IsEntryAsked, WasAsked, WasAskedIn, held_inside, of_map_entry, of_rule_entry, wanted_entries, wanted_entry, wanted_in, wanted_one}
+use Rattle.check_reading.specs.Parts.{Wanted, entry_wanted}
 use Rattle.check_reached.proofs.Answering.{Trees, all_in, answer_of, each_in, in_all, in_each, wanted_answer}
 use Rattle.check_reached.proofs.Lists.{IsIn, contained_place, contains, is_in, one_of}
 use Rattle.check_reached.proofs.Reaching.{Laws, instance_of, ref_of_instance}
@@ -39,7 +40,7 @@ wanted_there_in : (refs : List Ref) (o : Option S.Rule) (w v : Wanted) → IsIn 
 wanted_there_in refs None w v h = absurd h
 wanted_there_in refs (Some r) w v h = let q = in_each (parameters_in r) v w (refs_named (name_in r) refs) h in record { rule = r; there = refl; instance = q.0; among = q.1.0; same = q.1.1 }
 
-module _ (laws : Laws) (trees : Trees) (s : Specification) (root : Text) (clear : IsClear s) (refs : List Ref) (are : AreInstances (definitions s) root refs) (read : Leaf → Token) (fs : List Found) (reached : AreReachedSites (rules s) root read fs) (xs : List TextEntry) (listed : AreEntries (rules s) read fs xs) (t : Table) (answers : List Asked) (all : AreAnswers t answers (wanted_entries read (rules s) refs xs)) where
+module _ (laws : Laws) (trees : Trees) (s : Specification) (root : Text) (clear : IsClear s) (refs : List Ref) (are : AreInstances (definitions s) root refs) (read : Leaf → Token) (fs : List Found) (live : AreLive (rules s) read fs) (xs : List TextEntry) (listed : AreEntries (rules s) read fs xs) (t : Table) (answers : List Asked) (all : AreAnswers t answers (wanted_entries read (rules s) refs xs)) where
   -- the row of an answer is that of the entry with the arguments of the instance
   module _ (a : Asked) (h : Holder) (e : S.GrpEnt) (r : S.Rule) (i : Ref) (is : IsAnswer t a (wanted_in (parameters_in r) (entry_wanted h e) i)) where
     entry_row : IsEntry t a.row (closed_entry r (arguments_of i) e)
@@ -47,10 +48,10 @@ module _ (laws : Laws) (trees : Trees) (s : Specification) (root : Text) (clear 
 
   stands_asked : (k : ℕ) (h : Holder) (e : S.GrpEnt) (r : S.Rule) (i : Ref) (a : Asked) → Stands (rules s) read fs k h e → slice_get (rules s) k ≡ Some r → IsIn i (refs_named (name_in r) refs) → IsAnswer t a (wanted_in (parameters_in r) (entry_wanted h e) i) → IsEntryAsked (rules s) root t a
   stands_asked k h e r i a (in_map {f = f} {u = u} {g = g} c is m) at among answer =
-      let so = reached.sound f c in
-      let same = one_of (slice_get (rules s) f.rule) so.rule r so.place at in
-      let live = laws.live (rules s) root r so.arguments (a_map u g) (subst (λ q. IsReached (rules s) root q so.arguments (a_map u g)) same (subst (IsReached (rules s) root so.rule so.arguments) is so.reached)) in
-      of_map_entry {r = r} {xs = arguments_of i} {u = u} {g = g} {e = e} (laws.reached s root clear r i (a_map u g) (instance_of laws s root clear refs are f.rule r i at among) live) m (entry_row a HolderV.Map e r i answer) answer.at answer.question
+      let so = live.sound f c in
+      let same = one_of (slice_get (rules s) f.rule) so.0 r so.1.0 at in
+      let lives = subst (λ q. IsLive (rules s) q (a_map u g)) same (subst (IsLive (rules s) so.0) is so.1.1) in
+      of_map_entry {r = r} {xs = arguments_of i} {u = u} {g = g} {e = e} (laws.reached s root clear r i (a_map u g) (instance_of laws s root clear refs are f.rule r i at among) lives) m (entry_row a HolderV.Map e r i answer) answer.at answer.question
   stands_asked k h e r i a (in_rule {r = q} is m) at among answer =
       let same = one_of (slice_get (rules s) k) q r is at in
       of_rule_entry {r = r} {i = i} {h = HolderV.Rule} {e = e} (instance_of laws s root clear refs are k r i at among) (subst (λ x. Contains (held_inside HolderV.Rule x) e) same m) answer.call (entry_row a HolderV.Rule e r i answer) answer.at answer.question
@@ -95,8 +96,8 @@ module _ (laws : Laws) (trees : Trees) (s : Specification) (root : Text) (clear 
   of_map_asked r ys u g e h m =
       let i = laws.instance (rules s) root r ys (a_map u g) h in
       let k = contained_place (rules s) r i.1.0.present in
-      let f = reached.complete k.0 r ys (a_map u g) k.1 h in
-      let stands = subst (λ j. Stands (rules s) read fs j HolderV.Map e) f.place (in_map {f = f.found} {u = u} {g = g} {e = e} f.contained f.same m) in
+      let f = live.complete k.0 r (a_map u g) k.1 (laws.live (rules s) root r ys (a_map u g) h) in
+      let stands = subst (λ j. Stands (rules s) read fs j HolderV.Map e) f.1.1.0 (in_map {f = f.0} {u = u} {g = g} {e = e} f.1.0 f.1.1.1 m) in
       let w = was_asked k.0 HolderV.Map e r i.0 k.1 (ref_of_instance laws s root clear refs are r i.0 i.1.0) stands in
       subst (λ zs. WasAsked (rules s) root t answers (entry_at e) (QuestionV.Entry HolderV.Map) (entry_tree (closed_entry r zs e))) (sym i.1.1) w.was
 

@@ -22,7 +22,7 @@ use Rattle.check_names.specs.Environment.Places.{no_places}
 use Rattle.check_instances.specs.declared.found.Instance.{Instance}
 use Rattle.check_instances.specs.Found.{AreFound}
 use Rattle.cddl_language.specs.Live.Live.{IsClear, IsLive}
-use Rattle.check_reached.specs.LiveSites.Live.{AreLive}
+use Rattle.check_live.specs.Live.{AreLive}
 use Rattle.check_sites.specs.declared.sites.site.Found.{Found}
 use Rattle.check_sites.specs.Sites.View.{view_site}
 use Rattle.check_sites.specs.Sites.Listed.{WasFound}

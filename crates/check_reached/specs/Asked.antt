@@ -1,20 +1,19 @@
 -- What is asked of at the sites that a root reaches, in each instance.
-use Rattle.std.specs.Prelude.{◌≡◌, ℕ, true, if◌then◌else◌, List, [], ◌∷◌, ◌++◌, map, Contains, Option, Some, None, option_map, slice_get}
+use Rattle.std.specs.Prelude.{◌≡◌, ℕ, true, List, [], ◌∷◌, ◌++◌, map, Contains, Option, Some, None, slice_get}
 use Rattle.cddl_token.specs.declared.Token.{Token}
 use Rattle.tree_nodes.specs.Syntax.Syntax as S
 use Rattle.tree_nodes.specs.declared.tree.Leaf.{Leaf}
-use Rattle.tree_nodes.specs.View.{view_group, view_operator, view_ref, view_type2}
-use Rattle.cddl_language.specs.Controls.{Comparison, Computation, Control, compared, computation_in, computed, control_of, is_ordering, join, Membership, of_size, of_bits, member, sum}
+use Rattle.cddl_language.specs.Controls.{Comparison, Computation, Membership}
 use Rattle.cddl_language.specs.Faults.{comparison_of, computation_of, membership_of, is_range_sign, operand_at}
 use Rattle.cddl_language.specs.MapFaults.{closed_entry, entry_at}
-use Rattle.cddl_language.specs.Reading.{control_name, entry_of, group_of, name_in, operation, parameters_in, ref_of, term_of2}
+use Rattle.cddl_language.specs.Reading.{group_of, name_in, operation, parameters_in, ref_of, term_of2}
 use Rattle.cddl_language.specs.Sites.{IsInstance, IsReached, Site, a_choice_of, a_choice_of_name, a_map, an_operation}
 use Rattle.cddl_language.specs.Substitution.{fill, fill_group, fill_ref}
 use Rattle.cddl_language.specs.Terms.{Ref, Term, Text, arguments_of}
 use Rattle.check_terms.specs.declared.definition.Definition.{Definition}
 use Rattle.check_terms.specs.Definitions.{AreTexts}
 use Rattle.check_terms.specs.Filled.{filled, term_trees}
-use Rattle.check_terms.specs.Table.{Holds, Table, Tree, nothing}
+use Rattle.check_terms.specs.Table.{Holds, Table, Tree}
 use Rattle.check_terms.specs.Trees.{IsEntry, IsGroup, IsRef, IsTerm, entry_tree, group_tree, ref_tree, term_tree}
 use Rattle.check_terms.specs.Fill.Templates.{AreTrees}
 use Rattle.check_sites.specs.declared.sites.site.Found.{Found}
@@ -23,93 +22,11 @@ use Rattle.check_sites.specs.declared.entries.entry.Holder.TheVariants as Holder
 use Rattle.check_sites.specs.declared.entries.entry.TextEntry.{TextEntry}
 use Rattle.check_sites.specs.Entries.Entries.{group_inside, opened_inside, rule_inside, view_node}
 use Rattle.check_sites.specs.Sites.View.{view_site}
+use Rattle.check_reading.specs.Parts.{Placed, Wanted, comparand_question, entry_wanted, first_part, last_part, members_question, operand_question}
+use Rattle.check_reading.specs.declared.parts.part.Question.{Question}
+use Rattle.check_reading.specs.declared.parts.part.Question.TheVariants as QuestionV
 use Rattle.check_reached.specs.Calls.{refs_named}
 use Rattle.check_reached.specs.declared.asked.Asked.{Asked}
-use Rattle.check_reached.specs.declared.asked.Question.{Question}
-use Rattle.check_reached.specs.declared.asked.Question.TheVariants as QuestionV
-use Rattle.check_reached.specs.declared.parts.Node.{Node}
-use Rattle.check_reached.specs.declared.parts.Node.TheVariants as NodeV
-use Rattle.check_reached.specs.declared.parts.Part.{Part}
-
--- A question of the row of a tree, and the offset of its fault; with the reference of the instance, or nothing before there is
--- one.
-pub record Wanted : Type 0 where
-  pub at : ℕ
-  pub question : Question
-  pub tree : Tree
-  pub call : Tree
-
--- What is asked of at a site, with the rule's parameters in it.
-
-abbrev pub operand_wanted : S.Type2 → Question → Wanted
-operand_wanted x q = record { at = operand_at x; question = q; tree = term_tree (term_of2 x); call = nothing }
-
-abbrev pub end_of : S.Type2 → Wanted
-end_of x = operand_wanted x QuestionV.IsWhole
-
--- of what an item is compared with
-abbrev pub comparand_question : Comparison → Question
-comparand_question c = if is_ordering c then QuestionV.IsNumber else QuestionV.IsLiteral
-
--- of a controller with members
-abbrev pub members_question : Membership → Question
-members_question of_size = QuestionV.HasSizes
-members_question of_bits = QuestionV.HasBits
-
--- of an operand of a computation
-abbrev pub operand_question : Computation → Question
-operand_question sum = QuestionV.IsAddend
-operand_question (join j) = QuestionV.IsString
-
-abbrev pub question_of_operand : Option Computation → Option Question
-question_of_operand None = None
-question_of_operand (Some c) = Some (operand_question c)
-
--- of what stands to the left of an operator
-abbrev pub question_before : S.Operator → Option Question
-question_before (S.range t) = Some QuestionV.IsWhole
-question_before (S.range_below t) = Some QuestionV.IsWhole
-question_before (S.control t) = question_of_operand (computation_in (control_of (control_name t)))
-
--- of a computation with its right side, told at that side
-abbrev pub computation_wanted : S.Type2 → S.Operator → S.Type2 → Wanted
-computation_wanted x o y = record { at = operand_at y; question = QuestionV.Computes; tree = term_tree (operation (term_of2 x) o (term_of2 y)); call = nothing }
-
--- of what stands to the right of an operator, by the control that it is
-
-abbrev pub controller_wanted : S.Type2 → S.Operator → S.Type2 → Option Control → Option Wanted
-controller_wanted x o y (Some (compared c)) = Some (operand_wanted y (comparand_question c))
-controller_wanted x o y (Some (member m)) = Some (operand_wanted y (members_question m))
-controller_wanted x o y (Some (computed c)) = Some (computation_wanted x o y)
-controller_wanted x o y _ = None
-
-abbrev pub wanted_after : S.Type2 → S.Operator → S.Type2 → Option Wanted
-wanted_after x (S.range t) y = Some (end_of y)
-wanted_after x (S.range_below t) y = Some (end_of y)
-wanted_after x (S.control t) y = controller_wanted x (S.control t) y (control_of (control_name t))
-
-abbrev pub first_part : Site → Option Wanted
-first_part (a_choice_of u g) = Some (record { at = u.start; question = QuestionV.ChoosesFrom; tree = group_tree (group_of g); call = nothing })
-first_part (a_choice_of_name u f) = Some (record { at = u.start; question = QuestionV.ChoosesByName; tree = ref_tree (ref_of f); call = nothing })
-first_part (an_operation x o y) = option_map (operand_wanted x) (question_before o)
-first_part (a_map u g) = Some (record { at = u.start; question = QuestionV.MapGroup; tree = group_tree (group_of g); call = nothing })
-first_part _ = None
-
-abbrev pub last_part : Site → Option Wanted
-last_part (an_operation x o y) = wanted_after x o y
-last_part _ = None
-
--- the same of the code's parts
-
-abbrev pub node_tree : (Leaf → Token) → Node → Tree
-node_tree read (NodeV.Group g) = group_tree (group_of (view_group read g.now))
-node_tree read (NodeV.Reference f) = ref_tree (ref_of (view_ref read f.now))
-node_tree read (NodeV.Operand x) = term_tree (term_of2 (view_type2 read x.now))
-node_tree read (NodeV.Operation x o y) = term_tree (operation (term_of2 (view_type2 read x.now)) (view_operator read o) (term_of2 (view_type2 read y.now)))
-node_tree read (NodeV.Entry e) = entry_tree (entry_of (view_node read e))
-
-abbrev pub wanted : (Leaf → Token) → Part → Wanted
-wanted read p = record { at = p.at; question = p.question; tree = node_tree read p.node; call = nothing }
 
 -- with the arguments of a reference in the place of these parameters
 abbrev pub wanted_in : List Text → Wanted → Ref → Wanted
@@ -140,14 +57,14 @@ wanted_by of (x ∷ xs) = of x ++ wanted_by of xs
 abbrev pub wanted_all : (Leaf → Token) → List S.Rule → List Ref → List Found → List Wanted
 wanted_all read rs refs fs = wanted_by (wanted_at read rs refs) fs
 
--- of an entry in a rule, in the instances of its name among these
-
-abbrev pub entry_wanted : Holder → S.GrpEnt → Wanted
-entry_wanted h e = record { at = entry_at e; question = QuestionV.Entry h; tree = entry_tree (entry_of e); call = nothing }
+-- of a part or of an entry in a rule, in the instances of its name among these
 
 abbrev pub wanted_one : List Ref → Option S.Rule → Wanted → List Wanted
 wanted_one refs None w = []
 wanted_one refs (Some r) w = wanted_each (parameters_in r) w (refs_named (name_in r) refs)
+
+abbrev pub wanted_placed : List S.Rule → List Ref → Placed → List Wanted
+wanted_placed rs refs w = wanted_one refs (slice_get rs w.0) w.1
 
 abbrev pub wanted_entry : (Leaf → Token) → List S.Rule → List Ref → TextEntry → List Wanted
 wanted_entry read rs refs x = wanted_one refs (slice_get rs x.rule) (entry_wanted x.holder (view_node read x.node))

@@ -2,4 +2,3 @@ pub mod Asked
 pub mod Calls
 pub mod Reached
 pub mod Runs
-pub mod LiveSites

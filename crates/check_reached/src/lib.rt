@@ -5,11 +5,10 @@ mod asked;
 mod calls;
 mod entries;
 pub mod laws;
-pub mod live_sites;
-mod parts;
 mod reached;
 mod runs;
 
-pub use crate::asked::{Asked, Question, questions};
+pub use crate::asked::{Asked, questions};
 pub use crate::entries::entry_questions;
 pub use crate::reached::reached_sites;
+pub use check_reading::parts::Question;

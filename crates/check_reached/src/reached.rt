@@ -7,7 +7,6 @@ ghost use Rattle.cddl_language.specs.Terms.{Ref, Text};
 ghost use Rattle.check_names.specs.Environment.Places.{lists};
 ghost use Rattle.check_instances.specs.Found.{AreFound};
 ghost use Rattle.cddl_language.specs.Live.Live.{IsClear};
-ghost use Rattle.check_reached.specs.LiveSites.Live.{AreLive};
 ghost use Rattle.check_reached.specs.Calls.{called_in, has_calls};
 ghost use Rattle.check_reached.specs.Reached.{AreReachedSites};
 ghost use Rattle.check_reading.specs.Survey.Survey.{IsSurvey};
@@ -22,7 +21,7 @@ use check_sites::sites::Found;
 use check_terms::{Definition, Terms};
 use std::alloc::{AllocError, Global};
 
-/// The sites that the root reaches, of the live ones: those of the rules whose name is that of an instance (RFC 8610 section
+/// The sites that the root reaches, of the survey's live ones: those of the rules whose name is that of an instance (RFC 8610 section
 /// 3.10).
 ///
 /// The instances are those of [`check_instances::instances`], by the numbers of this table. It takes time and memory in
@@ -31,14 +30,13 @@ pub fn reached_sites<'t>(
     alloc: Global,
     terms: &Terms<'_>,
     survey: &Survey<'t>,
-    live: &[Found<'t>],
     found: &[Instance],
 ) -> Result<Vec<Found<'t>>, AllocError>
-    ensures { IfOk result (λ v. (tree : Tree) (s : Specification) (root : Text) (refs : List Ref) → s.tree ≡ view tree → IsClear s → IsSurvey terms.now tree survey.now → AreLive (rules s) (token_of tree) live.now → AreInstances (definitions s) root refs → AreFound (definitions s) terms.now found.now refs → AreReachedSites (rules s) root (token_of tree) v.items) }
+    ensures { IfOk result (λ v. (tree : Tree) (s : Specification) (root : Text) (refs : List Ref) → s.tree ≡ view tree → IsClear s → IsSurvey terms.now tree survey.now → AreInstances (definitions s) root refs → AreFound (definitions s) terms.now found.now refs → AreReachedSites (rules s) root (token_of tree) v.items) }
 {
     reached_sites_are_live();
     let calls = calls_by_name(alloc, terms, found)?;
-    called(alloc, &calls, &survey.definitions, live)
+    called(alloc, &calls, &survey.definitions, &survey.live)
 }
 
 // The sites of the rules whose name has instances.

@@ -1,3 +1,4 @@
+mod OfParts
 mod OfPrelude
 mod OfReader
 pub mod OfSurvey

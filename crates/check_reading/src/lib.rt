@@ -2,6 +2,7 @@
 //! entries of its groups.
 #![tactic(auto)]
 
+pub mod parts;
 pub mod prelude;
 pub mod reader;
 pub mod survey;

@@ -4,6 +4,5 @@ mod leaves;
 mod nodes;
 
 pub use crate::reader::definitions::read;
-pub use crate::reader::nodes::{
-    read_entry, read_group, read_operand, read_operation, read_reference, read_type_entry,
-};
+pub(crate) use crate::reader::nodes::{read_entry, read_group, read_reference};
+pub use crate::reader::nodes::{read_operand, read_operation, read_type_entry};

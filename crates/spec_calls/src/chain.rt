@@ -15,7 +15,6 @@ use check_maps::map_faults::{MapFaults, map_faults};
 use check_maps::spliced::{Spliced, spliced_entries};
 use check_names::environment::names;
 use check_names::kinds::{Kinds, kinds_of};
-use check_reached::live_sites::live_sites;
 use check_reached::{Asked, entry_questions, questions, reached_sites};
 use check_reading::survey::Survey;
 use check_sites::sites::Found as FoundSite;
@@ -98,54 +97,30 @@ fn instances_in(
 pub(crate) fn sites_in<'t>(
     alloc: Global,
     terms: &Terms<'_>,
-    tree: &'t Tree<'_>,
     survey: &Survey<'t>,
     found: &[Instance],
 ) -> Option<Vec<FoundSite<'t>>> {
-    match &live_sites(alloc, terms, tree, survey) {
-        Ok(live) => reached_sites(alloc, terms, survey, live, found).ok(),
-        Err(_) => None,
-    }
+    reached_sites(alloc, terms, survey, found).ok()
 }
 
-fn questions_at<'s>(
+fn questions_in(
     alloc: Global,
-    terms: &mut Terms<'s>,
-    tree: &Tree<'s>,
+    terms: &mut Terms<'_>,
     survey: &Survey<'_>,
-    reached: &[FoundSite<'_>],
     found: &[Instance],
 ) -> Option<Questions> {
-    let Ok(asked) = questions(alloc, terms, tree, survey, reached, found) else {
+    let Ok(asked) = questions(alloc, terms, survey, found) else {
         return None;
     };
-    match entry_questions(alloc, terms, tree, &survey.definitions, reached, found) {
+    match entry_questions(alloc, terms, survey, found) {
         Ok(entries) => Some(Questions { asked, entries }),
         Err(_) => None,
     }
 }
 
-fn questions_in<'s>(
-    alloc: Global,
-    terms: &mut Terms<'s>,
-    tree: &Tree<'s>,
-    survey: &Survey<'_>,
-    found: &[Instance],
-) -> Option<Questions> {
-    match &sites_in(alloc, terms, tree, survey, found) {
-        Some(reached) => questions_at(alloc, terms, tree, survey, reached, found),
-        None => None,
-    }
-}
-
-fn reached_in<'s>(
-    alloc: Global,
-    terms: &mut Terms<'s>,
-    tree: &Tree<'s>,
-    survey: &Survey<'_>,
-) -> Option<Reached> {
+fn reached_in(alloc: Global, terms: &mut Terms<'_>, survey: &Survey<'_>) -> Option<Reached> {
     let instances = instances_in(alloc, terms, survey)?;
-    match questions_in(alloc, terms, tree, survey, &instances) {
+    match questions_in(alloc, terms, survey, &instances) {
         Some(questions) => Some(Reached {
             instances,
             questions,
@@ -346,7 +321,7 @@ pub(crate) fn surveyed<'s>(
     survey: &Survey<'_>,
     what: &str,
 ) -> Option<String> {
-    match &reached_in(alloc, terms, tree, survey) {
+    match &reached_in(alloc, terms, survey) {
         Some(reached) => with_reached(alloc, terms, tree, survey, reached, what),
         None => None,
     }

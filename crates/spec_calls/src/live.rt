@@ -1,9 +1,7 @@
 //! Which names of a text are at live sites.
 
-use check_reached::live_sites::live_sites;
 use check_reading::survey::Survey;
 use check_sites::sites::{Found, Site, name_token};
-use check_terms::Terms;
 use std::alloc::{AllocError, Global};
 use tree_nodes::Tree;
 
@@ -27,14 +25,6 @@ fn offsets(alloc: Global, tree: &Tree<'_>, live: &[Found<'_>]) -> Result<String,
 }
 
 // The offsets of the live names, if there is memory.
-pub(crate) fn live_names(
-    alloc: Global,
-    terms: &Terms<'_>,
-    tree: &Tree<'_>,
-    survey: &Survey<'_>,
-) -> Option<String> {
-    match &live_sites(alloc, terms, tree, survey) {
-        Ok(live) => offsets(alloc, tree, live).ok(),
-        Err(_) => None,
-    }
+pub(crate) fn live_names(alloc: Global, tree: &Tree<'_>, survey: &Survey<'_>) -> Option<String> {
+    offsets(alloc, tree, &survey.live).ok()
 }

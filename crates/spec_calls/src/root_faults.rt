@@ -21,7 +21,7 @@ pub(crate) fn fault_of<'t>(
     meant: &Meant<'_>,
     what: &str,
 ) -> Option<String> {
-    match &sites_in(alloc, terms, tree, survey, &meant.reached.instances) {
+    match &sites_in(alloc, terms, survey, &meant.reached.instances) {
         Some(reached) => fault_at(alloc, terms, tree, survey, meant, reached, what),
         None => None,
     }

@@ -27,7 +27,7 @@ fn surveyed(
     what: &str,
 ) -> Option<String> {
     if what == "live" {
-        return live_names(alloc, terms, tree, survey);
+        return live_names(alloc, tree, survey);
     }
     match what.strip_prefix("kind:") {
         Some(name) => kind_of(alloc, terms, survey, name),

@@ -25,7 +25,7 @@ use Rattle.check_sites.specs.declared.entries.entry.Holder.TheVariants as Holder
 use Rattle.check_sites.specs.Entries.Entries.{group_inside, opened_in, rule_inside, some_inside}
 use Rattle.check_sites.specs.Entries.Spliced.{AreSplicedIn, IsAmongSpliced, of_a_map, of_a_name, of_an_opening}
 use Rattle.check_reached.specs.declared.asked.Asked.{Asked}
-use Rattle.check_reached.specs.declared.asked.Question.TheVariants as QuestionV
+use Rattle.check_reading.specs.declared.parts.part.Question.TheVariants as QuestionV
 use Rattle.check_reached.specs.Asked.{AreEntriesAsked, IsEntryAsked, held_inside, of_map_entry, of_rule_entry}
 use Rattle.check_maps.specs.declared.spliced.listing.Spliced.{Spliced}
 use Rattle.check_maps.specs.declared.spliced.owners.Owner.{Owner}

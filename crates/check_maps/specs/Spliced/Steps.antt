@@ -10,8 +10,8 @@ use Rattle.check_instances.specs.declared.openings.openings.Part.TheVariants as 
 use Rattle.check_sites.specs.declared.entries.entry.Holder.{Holder}
 use Rattle.check_sites.specs.declared.entries.entry.Holder.TheVariants as HolderV
 use Rattle.check_reached.specs.declared.asked.Asked.{Asked}
-use Rattle.check_reached.specs.declared.asked.Question.{Question}
-use Rattle.check_reached.specs.declared.asked.Question.TheVariants as QuestionV
+use Rattle.check_reading.specs.declared.parts.part.Question.{Question}
+use Rattle.check_reading.specs.declared.parts.part.Question.TheVariants as QuestionV
 use Rattle.check_maps.specs.declared.spliced.listing.Spliced.{Spliced}
 use Rattle.check_maps.specs.declared.spliced.owners.Owner.{Owner}
 use Rattle.check_maps.specs.declared.spliced.owners.Owner.TheVariants as OwnerV

@@ -1,19 +1,22 @@
 -- What is read of a text is read of it by the numbers of a table with more rows.
-use Rattle.std.proofs.Common.{◌≡◌, List, length, slice_get, sym, ap, subst, ◌∙◌}
+use Rattle.std.proofs.Common.{◌≡◌, ℕ, List, length, Option, slice_get, sym, ap, subst, ◌∙◌}
 use Rattle.cddl_language.specs.Terms as L
 use Rattle.cddl_language.specs.Terms.{Text}
 use Rattle.cddl_language.specs.Prelude.{prelude}
+use Rattle.cddl_language.specs.Reading.{rules_of}
 use Rattle.tree_nodes.specs.declared.tree.Tree.{Tree}
+use Rattle.tree_nodes.specs.View.{token_of, view}
 use Rattle.check_terms.specs.declared.definition.Definition.{Definition}
 use Rattle.check_terms.specs.Definitions.{AreDefinitions}
-use Rattle.check_terms.specs.Table.{IsTable, Table}
+use Rattle.check_terms.specs.Table.{Holds, IsTable, Table, Tree as Trees}
 use Rattle.check_names.specs.Environment.Names.{AreNames}
 use Rattle.check_names.specs.Kinds.Kinds.{AreKinds}
 use Rattle.check_reading.specs.Survey.Survey.{IsSurvey, defined_in}
 use Rattle.check_reading.specs.declared.survey.survey.Survey.{Survey}
+use Rattle.check_reading.proofs.OfParts.Listing.{entry_parts_kept, parts_kept}
 
-pub grown : (old new : Table) (tree : Tree) (v : Survey) → new.texts ≡ old.texts → IsTable new → IsSurvey old tree v → ((ds : List Definition) (xs : List L.Definition) → AreDefinitions old ds xs → AreDefinitions new ds xs) → IsSurvey new tree v
-grown old new tree v same table is keeps = record {
+pub grown : (old new : Table) (tree : Tree) (v : Survey) → new.texts ≡ old.texts → IsTable new → IsSurvey old tree v → ((ds : List Definition) (xs : List L.Definition) → AreDefinitions old ds xs → AreDefinitions new ds xs) → ((n : Option ℕ) (x : Trees) → Holds old n x → Holds new n x) → IsSurvey new tree v
+grown old new tree v same table is keeps holds = record {
   table = table;
   prelude_read = keeps v.known.items prelude is.prelude_read;
   text_read = keeps v.definitions.items (defined_in tree) is.text_read;
@@ -24,4 +27,7 @@ grown old new tree v same table is keeps = record {
   parameters_found = is.parameters_found;
   sites_found = is.sites_found;
   outer_found = is.outer_found;
+  live_found = is.live_found;
+  parts_read = parts_kept old new holds v.parts.items _ is.parts_read;
+  entries_read = entry_parts_kept old new holds (rules_of (view tree)) (token_of tree) v.live.items v.entries.items is.entries_read;
 }

@@ -1,5 +1,5 @@
 -- What a survey says of a specification.
-use Rattle.std.specs.Prelude.{◌≡◌, ℕ, List, length, map, Some, slice_get}
+use Rattle.std.specs.Prelude.{◌≡◌, ℕ, List, flat_map, length, map, Some, slice_get}
 use Rattle.cddl_token.specs.declared.Token.{Token}
 use Rattle.cddl_language.specs.Terms as L
 use Rattle.cddl_language.specs.Terms.{Text}
@@ -17,6 +17,8 @@ use Rattle.check_names.specs.Environment.Places.{lists}
 use Rattle.check_names.specs.Kinds.Kinds.{AreKinds}
 use Rattle.check_sites.specs.Sites.View.{outside, view_found}
 use Rattle.check_sites.specs.Sites.Walk.{all_outer_sites, all_sites}
+use Rattle.check_live.specs.Live.{AreLive}
+use Rattle.check_reading.specs.Parts.{AreEntryParts, AreParts, of_found}
 use Rattle.check_reading.specs.declared.survey.survey.Survey.{Survey}
 
 -- the definitions of a tree
@@ -42,3 +44,6 @@ pub record IsSurvey (t : Table) (tree : Tree) (s : Survey) : Type 0 where
   pub parameters_found : lists s.parameters.items ≡ map parameters_at (rules_of (view tree))
   pub sites_found : map (view_found (token_of tree)) s.sites.items ≡ all_sites (rules_of (view tree))
   pub outer_found : map (view_found (token_of tree)) (outside s.sites.items) ≡ all_outer_sites (rules_of (view tree))
+  pub live_found : AreLive (rules_of (view tree)) (token_of tree) s.live.items
+  pub parts_read : AreParts t s.parts.items (flat_map (of_found (token_of tree)) s.live.items)
+  pub entries_read : AreEntryParts t (rules_of (view tree)) (token_of tree) s.live.items s.entries.items

@@ -1,13 +1,15 @@
 //! A survey of a tree: its definitions and the prelude's, where those of each name stand, the kinds of names, where rules and
-//! their parameters begin, and all sites.
+//! their parameters begin, all sites, and what is asked of at the live ones.
 ghost use Rattle.std.specs.Prelude.{IfOk};
 ghost use Rattle.check_reading.specs.Survey.Survey.{IsSurvey};
 ghost use Rattle.check_terms.specs.Table.{Grows};
 
+use crate::parts::{Part, entry_parts, site_parts};
 use crate::prelude::add_prelude;
 use crate::reader::read;
 use crate::survey::parameters::all_parameters;
 use crate::survey::starts::starts_of;
+use check_live::live_sites;
 use check_names::environment::laws::names_stand;
 use check_names::environment::{Name, names};
 use check_names::kinds::{Kinds, kinds_of};
@@ -34,13 +36,21 @@ pub struct Survey<'t> {
     pub parameters: Vec<Vec<usize>>,
     /// All sites, rule by rule.
     pub sites: Vec<Found<'t>>,
+    /// The live sites: those outside of arguments, and those in an argument whose parameter is used.
+    pub live: Vec<Found<'t>>,
+    /// What is asked of at the live sites.
+    pub parts: Vec<Part>,
+    /// What is asked of the entries of maps at live sites, and of those of each rule's own group and of the map or the array
+    /// that its body is.
+    pub entries: Vec<Part>,
 }
 
-/// Reads the prelude and the rules of the tree, and finds where names are defined, of what kind they are, where rules and their
-/// parameters begin, and all sites.
+/// Reads the prelude and the rules of the tree, and finds all sites, which of them are live, the rows of what is asked of there,
+/// where names are defined, of what kind they are, and where rules and their parameters begin.
 ///
-/// It takes a time of n log n for a tree of n nodes. The table keeps what it has, also after an error, which comes only where
-/// memory is refused or each number of 32 bits is taken.
+/// The parts of live sites and the entries of maps are read once more, each by itself: so a tree of n nodes takes a time of
+/// n log n for each bracket that is open at most, of which the parser has 128. The table keeps what it has, also after an error,
+/// which comes only where memory is refused or each number of 32 bits is taken.
 pub fn survey_of<'s, 't>(
     alloc: Global,
     terms: &mut Terms<'s>,
@@ -53,6 +63,14 @@ pub fn survey_of<'s, 't>(
     names_stand();
     let known = add_prelude(alloc, terms)?;
     let definitions = read(alloc, terms, tree)?;
+    let Ok(sites) = sites(alloc, tree) else {
+        return Err(NoRoom);
+    };
+    let Ok(live) = live_sites(alloc, terms, tree, &definitions, &sites) else {
+        return Err(NoRoom);
+    };
+    let parts = site_parts(alloc, terms, tree, &live)?;
+    let entries = entry_parts(alloc, terms, tree, &live)?;
     let count = terms.text_count();
     terms.len();
     let Ok(names) = names(alloc, count, &known, &definitions) else {
@@ -67,9 +85,6 @@ pub fn survey_of<'s, 't>(
     let Ok(parameters) = all_parameters(alloc, tree) else {
         return Err(NoRoom);
     };
-    let Ok(sites) = sites(alloc, tree) else {
-        return Err(NoRoom);
-    };
     Ok(Survey {
         known,
         definitions,
@@ -78,5 +93,8 @@ pub fn survey_of<'s, 't>(
         starts,
         parameters,
         sites,
+        live,
+        parts,
+        entries,
     })
 }

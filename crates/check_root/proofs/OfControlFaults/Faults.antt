@@ -21,10 +21,11 @@ use Rattle.check_terms.specs.Trees.{IsTerm, term_tree}
 use Rattle.cddl_language.specs.Written.Written.{AllIn, IsMeant}
 use Rattle.check_literals.specs.Literals.{IsKnown, computed_fault}
 use Rattle.check_reached.specs.declared.asked.Asked.{Asked}
-use Rattle.check_reached.specs.declared.asked.Question.{Question}
-use Rattle.check_reached.specs.declared.asked.Question.TheVariants as QuestionV
+use Rattle.check_reading.specs.declared.parts.part.Question.{Question}
+use Rattle.check_reading.specs.declared.parts.part.Question.TheVariants as QuestionV
 use Rattle.check_reached.specs.Asked as A
-use Rattle.check_reached.specs.Asked.{AreAsked, IsAsked, WasAsked, comparand_question, members_question, operand_question}
+use Rattle.check_reached.specs.Asked.{AreAsked, IsAsked, WasAsked}
+use Rattle.check_reading.specs.Parts.{comparand_question, members_question, operand_question}
 use Rattle.lists.specs.Least.{IsLeast}
 use Rattle.lists.proofs.Lemmas.{same_least as alike}
 use Rattle.all_offsets.specs.Offsets.{AreOffsets, IsAmong}

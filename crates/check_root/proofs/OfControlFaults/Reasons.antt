@@ -8,8 +8,8 @@ use Rattle.cddl_language.specs.Controls.{Comparison, Computation, Membership, of
 use Rattle.cddl_language.specs.Faults.{is_operand}
 use Rattle.cddl_language.specs.Literals.{computed_from, whole}
 use Rattle.check_literals.specs.Literals.{computed_fault, fault_of}
-use Rattle.check_reached.specs.declared.asked.Question.TheVariants as QuestionV
-use Rattle.check_reached.specs.Asked.{comparand_question, members_question, operand_question}
+use Rattle.check_reading.specs.declared.parts.part.Question.TheVariants as QuestionV
+use Rattle.check_reading.specs.Parts.{comparand_question, members_question, operand_question}
 use Rattle.check_root.specs.ControlFaults.Controllers.{is_bad_controller, is_not_utf8, is_out_of_range, is_wrong_literal}
 
 opposite : (b : Bool) → not b ≡ true → b ≡ false

@@ -11,8 +11,8 @@ use Rattle.check_literals.specs.declared.known.Literals.{Literals}
 use Rattle.check_literals.specs.Literals.{AreLiterals, IsKnown, literal_at}
 use Rattle.check_literals.specs.Sizes.Sizes.{flag_at, flags_of}
 use Rattle.check_reached.specs.declared.asked.Asked.{Asked}
-use Rattle.check_reached.specs.declared.asked.Question.{Question}
-use Rattle.check_reached.specs.declared.asked.Question.TheVariants as QuestionV
+use Rattle.check_reading.specs.declared.parts.part.Question.{Question}
+use Rattle.check_reading.specs.declared.parts.part.Question.TheVariants as QuestionV
 use Rattle.lists.specs.Least.{IsLeast}
 use Rattle.check_root.proofs.OfRangeFaults.Lemmas.{OneTerm}
 use Rattle.check_root.specs.ControlFaults.Controllers.{AreFlags, IsComputed, IsThere, IsWrong, has_members, is_asked, is_bad_controller, is_wrong, is_wrong_computed, is_wrong_literal, is_wrong_row, is_wrong_type, membership_asked}

@@ -14,10 +14,11 @@ use Rattle.cddl_language.specs.Written.Written.{AllIn, IsMeant}
 use Rattle.check_terms.specs.Table.{Table}
 use Rattle.check_terms.specs.Trees.{IsTerm}
 use Rattle.check_reached.specs.declared.asked.Asked.{Asked}
-use Rattle.check_reached.specs.declared.asked.Question.{Question}
-use Rattle.check_reached.specs.declared.asked.Question.TheVariants as QuestionV
+use Rattle.check_reading.specs.declared.parts.part.Question.{Question}
+use Rattle.check_reading.specs.declared.parts.part.Question.TheVariants as QuestionV
 use Rattle.check_reached.specs.Asked as A
 use Rattle.check_reached.specs.Asked.{AreAsked, IsAsked}
+use Rattle.check_reading.specs.Parts.{comparand_question, members_question, operand_question}
 use Rattle.check_root.specs.RangeFaults.Ends.{AreEnds, AsksWhole, IsBadEnd, IsEnd}
 use Rattle.all_offsets.specs.Offsets.{IsAmong}
 use Rattle.check_root.proofs.OfRangeFaults.Whole.{OneTerm}
@@ -43,18 +44,18 @@ asks_whole _ = false
 other : (q : Question) → asks_whole q ≡ false → q ≡ QuestionV.IsWhole → ⊥
 other q e g = true≢false (sym (ap asks_whole g) ∙ e)
 
-no_end : (c : Comparison) → A.comparand_question c ≡ QuestionV.IsWhole → ⊥
+no_end : (c : Comparison) → comparand_question c ≡ QuestionV.IsWhole → ⊥
 no_end c e = by (is_ordering c) e
   where
     by : (b : Bool) → (if b then QuestionV.IsNumber else QuestionV.IsLiteral) ≡ QuestionV.IsWhole → ⊥
     by true g = other QuestionV.IsNumber refl g
     by false g = other QuestionV.IsLiteral refl g
 
-no_members : (m : Membership) → A.members_question m ≡ QuestionV.IsWhole → ⊥
+no_members : (m : Membership) → members_question m ≡ QuestionV.IsWhole → ⊥
 no_members of_size e = other QuestionV.HasSizes refl e
 no_members of_bits e = other QuestionV.HasBits refl e
 
-no_operand : (c : Computation) → A.operand_question c ≡ QuestionV.IsWhole → ⊥
+no_operand : (c : Computation) → operand_question c ≡ QuestionV.IsWhole → ⊥
 no_operand sum e = other QuestionV.IsAddend refl e
 no_operand (join j) e = other QuestionV.IsString refl e
 

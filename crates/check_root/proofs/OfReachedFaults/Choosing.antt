@@ -20,9 +20,10 @@ use Rattle.check_instances.specs.declared.closed.closed.Meaning.{Meaning}
 use Rattle.check_instances.specs.Closed.Closed.{AreAlternatives, no_alternatives, alternatives_of, AreReached, IsMeaning}
 use Rattle.check_groups.specs.Choosing.Choosing.{AreChoosable}
 use Rattle.check_reached.specs.declared.asked.Asked.{Asked}
-use Rattle.check_reached.specs.declared.asked.Question.{Question}
-use Rattle.check_reached.specs.declared.asked.Question.TheVariants as QuestionV
-use Rattle.check_reached.specs.Asked.{AreAsked, IsAsked, choosing, choosing_by_name, comparand_question, computation, controller, first_end, last_end, left_operand, members_controller, members_question, of_map, operand_question}
+use Rattle.check_reading.specs.declared.parts.part.Question.{Question}
+use Rattle.check_reading.specs.declared.parts.part.Question.TheVariants as QuestionV
+use Rattle.check_reached.specs.Asked.{AreAsked, IsAsked, choosing, choosing_by_name, computation, controller, first_end, last_end, left_operand, members_controller, of_map}
+use Rattle.check_reading.specs.Parts.{comparand_question, members_question, operand_question}
 use Rattle.check_root.specs.ReachedFaults.Choices.{ChoosesFromNone, from_none, from_no_name, chooses, flag_in, from_group, from_meaning, is_choosable_by_name, meaning_in, place_in, unchosen_at, unless}
 use Rattle.all_offsets.specs.Offsets.{AreOffsets, IsAtPlace, IsSaid}
 use Rattle.all_offsets.proofs.Lemmas.{all_of_members}

@@ -15,9 +15,10 @@ use Rattle.cddl_language.specs.Terms.{Term, Text}
 use Rattle.check_maps.specs.declared.map_faults.MapFaults.{MapFaults}
 use Rattle.check_maps.specs.MapFaults.Faults.{AreFaults}
 use Rattle.check_reached.specs.declared.asked.Asked.{Asked}
-use Rattle.check_reached.specs.declared.asked.Question.{Question}
-use Rattle.check_reached.specs.declared.asked.Question.TheVariants as QuestionV
-use Rattle.check_reached.specs.Asked.{AreAsked, IsAsked, choosing, choosing_by_name, comparand_question, computation, controller, first_end, last_end, left_operand, members_controller, members_question, of_map, operand_question}
+use Rattle.check_reading.specs.declared.parts.part.Question.{Question}
+use Rattle.check_reading.specs.declared.parts.part.Question.TheVariants as QuestionV
+use Rattle.check_reached.specs.Asked.{AreAsked, IsAsked, choosing, choosing_by_name, computation, controller, first_end, last_end, left_operand, members_controller, of_map}
+use Rattle.check_reading.specs.Parts.{comparand_question, members_question, operand_question}
 use Rattle.lists.specs.Least.{IsLeast}
 use Rattle.check_terms.specs.Table.{Table}
 use Rattle.all_offsets.specs.Offsets.{AreOffsets, IsAtPlace, IsSaid}

@@ -16,8 +16,8 @@ use Rattle.check_literals.specs.declared.known.Literals.{Literals}
 use Rattle.check_literals.specs.Literals.{IsKnown, computed_fault, fault_at, literal_at}
 use Rattle.check_literals.specs.Sizes.Sizes.{AreControllers, flag_at, flags_of}
 use Rattle.check_reached.specs.declared.asked.Asked.{Asked}
-use Rattle.check_reached.specs.declared.asked.Question.{Question}
-use Rattle.check_reached.specs.declared.asked.Question.TheVariants as QuestionV
+use Rattle.check_reading.specs.declared.parts.part.Question.{Question}
+use Rattle.check_reading.specs.declared.parts.part.Question.TheVariants as QuestionV
 use Rattle.check_root.specs.declared.control_faults.controllers.Wrong.{Wrong}
 use Rattle.check_root.specs.declared.control_faults.controllers.Wrong.TheVariants as WrongV
 

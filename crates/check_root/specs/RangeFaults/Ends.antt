@@ -7,7 +7,7 @@ use Rattle.check_literals.specs.Literals.{IsKnown}
 use Rattle.check_terms.specs.Table.{Table}
 use Rattle.check_terms.specs.Trees.{IsTerm}
 use Rattle.check_reached.specs.declared.asked.Asked.{Asked}
-use Rattle.check_reached.specs.declared.asked.Question.TheVariants as QuestionV
+use Rattle.check_reading.specs.declared.parts.part.Question.TheVariants as QuestionV
 
 -- what is asked is whether the row is of a whole number
 abbrev pub AsksWhole : Asked → Type 0

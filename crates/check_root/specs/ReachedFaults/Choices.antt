@@ -11,8 +11,8 @@ use Rattle.cddl_language.specs.Terms.{Term, Text}
 use Rattle.check_instances.specs.declared.closed.closed.Closed.{Closed}
 use Rattle.check_instances.specs.declared.closed.closed.Meaning.{Meaning}
 use Rattle.check_reached.specs.declared.asked.Asked.{Asked}
-use Rattle.check_reached.specs.declared.asked.Question.{Question}
-use Rattle.check_reached.specs.declared.asked.Question.TheVariants as QuestionV
+use Rattle.check_reading.specs.declared.parts.part.Question.{Question}
+use Rattle.check_reading.specs.declared.parts.part.Question.TheVariants as QuestionV
 
 -- C11, of `&`: what it cannot choose from.
 pub data ChoosesFromNone (s : Specification) (root : Text) (at : ℕ) : Type 0 where

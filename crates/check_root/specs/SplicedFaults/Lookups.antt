@@ -2,8 +2,8 @@
 use Rattle.std.specs.Prelude.{ℕ, Bool, true, false, ◌||◌, List, Option, Some, None, slice_get}
 use Rattle.check_maps.specs.declared.map_faults.MapFaults.{MapFaults}
 use Rattle.check_reached.specs.declared.asked.Asked.{Asked}
-use Rattle.check_reached.specs.declared.asked.Question.{Question}
-use Rattle.check_reached.specs.declared.asked.Question.TheVariants as QuestionV
+use Rattle.check_reading.specs.declared.parts.part.Question.{Question}
+use Rattle.check_reading.specs.declared.parts.part.Question.TheVariants as QuestionV
 use Rattle.check_maps.specs.declared.spliced.listing.Spliced.{Spliced}
 
 abbrev pub flag_in : Option Bool → Bool

@@ -1,10 +1,8 @@
 use Rattle.std.proofs.Common.{sym, subst, ◌∙◌}
 use Rattle.cddl_language.specs.Faults.{definitions, rules}
-use Rattle.cddl_language.specs.Reading.{definitions_in, rules_of}
 use Rattle.check_instances.specs.Found.{AreFound}
 use Rattle.check_reached.specs.Reached.{AreReachedSites}
 use Rattle.tree_nodes.specs.View.{token_of}
-use Rattle.check_terms.specs.Definitions.{AreDefinitions}
 use Rattle.cddl_check.proofs.questioning.ask.Goals as goal
 
 pub returns-clause-texts : goal.returns-clause-texts
@@ -15,23 +13,17 @@ returns-clause-asking c s worth root refs tree right instanced =
     let old = c.args.terms.now in
     let first = c.questions.new.terms in
     let last = c.entry_questions.new.terms in
-    let keeps = c.growing_keeps.ensures in
-    let read = token_of c.args.tree.now in
     let early = c.questions.ensures.grows in
     let late = c.entry_questions.ensures.grows in
     let survey = instanced.survey in
-    let sites = instanced.rooted.reached in
     let instances = instanced.rooted.instances in
-    let own = subst (λ x. AreDefinitions old c.args.survey.now.definitions.items (definitions_in (rules_of x))) (sym tree) survey.text_read in
-    let opened_sites = subst (AreReachedSites (rules s) root read) (sym c.deref.ensures.value) sites in
-    let asked_sites = subst (AreReachedSites (rules s) root read) (sym c.deref-2.ensures.value) sites in
-    let asked_found = subst (λ is. AreFound (definitions s) old is refs) (sym c.deref-3.ensures.value) instanced.found in
-    let asked = c.in_ok-asked.ensures.asked s root refs tree right.clear survey asked_sites instances asked_found in
-    let own_there = subst (λ ds. AreDefinitions first ds (definitions s)) (sym c.deref-4.ensures.value) (keeps.definitions old first early _ _ own) in
-    let entry_sites = subst (AreReachedSites (rules s) root read) (sym c.deref-5.ensures.value) sites in
-    let entry_found = subst (λ is. AreFound (definitions s) first is refs) (sym c.deref-6.ensures.value) (c.instances_grow.ensures old first early (definitions s) _ refs instanced.found) in
+    let opened_sites = subst (AreReachedSites (rules s) root (token_of c.args.tree.now)) (sym c.deref.ensures.value) instanced.rooted.reached in
+    let asked_found = subst (λ is. AreFound (definitions s) old is refs) (sym c.deref-2.ensures.value) instanced.found in
+    let asked = c.in_ok-asked.ensures.asked c.args.tree.now s root refs tree right.clear survey instances asked_found in
+    let still = c.survey_grows.ensures old first c.args.tree.now c.args.survey.now early c.in_ok-asked.ensures.texts c.is_table.ensures survey in
+    let entry_found = subst (λ is. AreFound (definitions s) first is refs) (sym c.deref-3.ensures.value) (c.instances_grow.ensures old first early (definitions s) _ refs instanced.found) in
     record {
       asked = c.questions_grow.ensures first last late (rules s) root _ asked;
-      entries = c.in_ok-entries.ensures.asked s root refs tree right.clear own_there entry_sites instances entry_found;
+      entries = c.in_ok-entries.ensures.asked c.args.tree.now s root refs tree right.clear still instances entry_found;
       opens = c.in_ok-opens.ensures s root tree survey opened_sites;
     }

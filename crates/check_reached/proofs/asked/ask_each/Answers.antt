@@ -4,7 +4,7 @@ use Rattle.check_terms.specs.Filled.{term_trees}
 use Rattle.check_terms.specs.Fill.Templates.{AreTrees}
 use Rattle.check_terms.specs.Table.{nothing}
 use Rattle.check_terms.specs.Trees.{ref_tree}
-use Rattle.check_reached.specs.Asked.{Wanted}
+use Rattle.check_reading.specs.Parts.{Wanted}
 use Rattle.check_reached.proofs.Asking.{IsFilling, all_filled, next_filled, none_filled}
 use Rattle.check_reached.proofs.asked.ask_each.Goals as goal
 

@@ -2,7 +2,8 @@ use Rattle.std.proofs.Common.{◌≡◌, List, drop}
 use Rattle.cddl_language.specs.Terms.{Ref, Text}
 use Rattle.check_terms.specs.Table.{Grows, Tree, nothing}
 use Rattle.check_terms.specs.Fill.Templates.{IsTemplate}
-use Rattle.check_reached.specs.Asked.{AreAnswers, Wanted}
+use Rattle.check_reached.specs.Asked.{AreAnswers}
+use Rattle.check_reading.specs.Parts.{Wanted}
 use Rattle.check_reached.specs.Runs.{AreCalls}
 use Rattle.check_reached.proofs.Asking.{IsFilling}
 use Rattle.check_reached.proofs.asked.ask_each.Given as goal

@@ -1,20 +1,12 @@
-use Rattle.std.proofs.Common.{sym, subst, ◌∙◌}
+use Rattle.std.proofs.Common.{List, ◌++◌, sym, ap, subst}
 use Rattle.lists.proofs.Lemmas.{on_ok}
+use Rattle.check_reading.specs.Parts.{Wanted}
+use Rattle.check_reached.specs.Asked.{AreAnswers}
 use Rattle.check_reached.specs.Runs.{AreCalls}
-use Rattle.tree_nodes.specs.View.{token_of}
-use Rattle.check_reached.specs.Asked.{node_tree}
+use Rattle.check_reached.proofs.Parting.{part_wanted}
 use Rattle.check_reached.proofs.asked.ask_part.Goals as goal
 
-pub returns-clause-texts : goal.returns-clause-texts
-returns-clause-texts c = on_ok c.ask_each.result _ _ (λ e. e ∙ c.in_ok-row.ensures.texts) c.ask_each.ensures.texts
-
 pub returns-clause-answers : goal.returns-clause-answers
-returns-clause-answers c = on_ok c.ask_each.result _ _ (λ h ps refs ws run so.
-    let keeps = c.answers_grow.ensures in
-    let old = c.args.terms.now in
-    let mid = c.row_of.new.terms in
-    let grown = c.in_ok-row.ensures.grows in
-    let kept = keeps.run old mid grown ps refs c.args.run.now run in
-    let x = node_tree (token_of c.args.tree.now) c.args.part.node in
-    let is = c.in_ok-template.ensures kept.numbers ps x kept.places kept.parameters c.in_ok-row.ensures.stands in
-    h ps x refs ws is (subst (λ cs. AreCalls mid cs refs) (sym c.deref.ensures.value) kept.calls) (keeps.answers old mid grown c.args.asked.now.items ws so)) c.ask_each.ensures.answers
+returns-clause-answers c = on_ok c.ask_each.result _ _ (λ h ps refs ws w run is so.
+    let template = c.in_ok-template.ensures run.numbers ps w.1.tree run.places run.parameters is.holds in
+    subst (AreAnswers c.ask_each.new.terms c.ask_each.new.asked.items) (ap (λ (vs : List Wanted). ws ++ vs) (part_wanted ps refs c.args.part.at c.args.part.question w.1 is.at is.question)) (h ps w.1.tree refs ws template (subst (λ cs. AreCalls c.args.terms.now cs refs) (sym c.deref.ensures.value) run.calls) so)) c.ask_each.ensures.answers

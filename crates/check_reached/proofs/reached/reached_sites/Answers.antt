@@ -2,6 +2,7 @@ use Rattle.std.proofs.Common.{sym, subst, ap, ◌∙◌}
 use Rattle.std.proofs.lemmas.Result.{IfOk-weaker}
 use Rattle.cddl_language.specs.Faults.{rules}
 use Rattle.cddl_language.specs.Reading.{definitions_in, rules_of}
+use Rattle.check_live.specs.Live.{AreLive}
 use Rattle.check_names.specs.Environment.Places.{lists}
 use Rattle.check_terms.specs.Definitions.{AreDefinitions}
 use Rattle.check_reading.specs.Survey.Survey.{defined_in}
@@ -11,9 +12,10 @@ use Rattle.check_reached.proofs.Reaching.{Laws, are_reached}
 use Rattle.check_reached.proofs.reached.reached_sites.Goals as goal
 
 pub returns : goal.returns
-returns c = IfOk-weaker c.called.result _ _ (λ v e tree s root refs same clear is live are found.
+returns c = IfOk-weaker c.called.result _ _ (λ v e tree s root refs same clear is are found.
     let t = c.args.terms.now in
     let ds = c.deref-2.result.now in
     let laws : Laws = record { live = c.reached_sites.ensures.live; instance = c.reached_sites.ensures.instance; reached = c.reached_sites.ensures.reached } in
     let defined = subst (λ x. AreDefinitions t ds (definitions_in (rules_of x))) (sym same) (subst (λ xs. AreDefinitions t xs (defined_in tree)) (sym c.deref-2.ensures.value) is.text_read) in
-    subst (AreReachedSites (rules s) root (token_of tree)) (sym e) (are_reached laws s root clear refs are t is.table ds defined c.args.found.now found (lists c.deref.result.now) (ap lists c.deref.ensures.value ∙ c.in_ok-calls.ensures) (token_of tree) c.args.live.now live)) c.called.ensures
+    let lives = subst (λ fs. AreLive (rules s) (token_of tree) fs) (sym c.deref-3.ensures.value) (subst (λ x. AreLive (rules_of x) (token_of tree) c.args.survey.now.live.items) (sym same) is.live_found) in
+    subst (AreReachedSites (rules s) root (token_of tree)) (sym e) (are_reached laws s root clear refs are t is.table ds defined c.args.found.now found (lists c.deref.result.now) (ap lists c.deref.ensures.value ∙ c.in_ok-calls.ensures) (token_of tree) c.deref-3.result.now lives)) c.called.ensures

@@ -1,5 +1,5 @@
 use Rattle.std.proofs.Common.{◌≤◌, ◌+◌, drop, drop_of_length-le, length, sym, subst, arith}
-use Rattle.check_reached.specs.declared.asked.Question.TheVariants as QuestionV
+use Rattle.check_reading.specs.declared.parts.part.Question.TheVariants as QuestionV
 use Rattle.check_maps.specs.Spliced.Spliced.{IsWay}
 use Rattle.check_maps.proofs.OfSpliced.Walking.{IsGoing, all_gone, next_gone, none_gone}
 use Rattle.check_maps.proofs.spliced.listing.ways_of.Goals as goal

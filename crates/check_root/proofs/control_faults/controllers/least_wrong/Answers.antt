@@ -1,4 +1,4 @@
-use Rattle.check_reached.specs.declared.asked.Question.TheVariants as QuestionV
+use Rattle.check_reading.specs.declared.parts.part.Question.TheVariants as QuestionV
 use Rattle.check_root.proofs.OfRangeFaults.Lemmas.{finished, step_at}
 use Rattle.check_root.specs.ControlFaults.Controllers.{IsWrong}
 use Rattle.check_root.proofs.control_faults.controllers.least_wrong.Goals as goal

@@ -1,7 +1,0 @@
-use Rattle.std.proofs.Common.{◌≡◌, List, Some, slice_get}
-use Rattle.check_terms.specs.declared.definition.Definition.{Definition}
-use Rattle.check_reached.specs.LiveSites.Facts.{IsPrepared}
-use Rattle.check_reached.proofs.live_sites.facts.add_parameters.Given as goal
-
-abbrev pub invariant-loop-place : goal.invariant-loop-place
-invariant-loop-place l = (ds : List Definition) → slice_get ds l.rule ≡ Some l.definition → IsPrepared ds l.rule 0 l.fn.facts.numbers.keys l.fn.facts.implications.items → IsPrepared ds l.rule l.place l.facts.numbers.keys l.facts.implications.items

@@ -1,5 +1,0 @@
-use Rattle.check_reached.specs.LiveSites.Facts.{IsPrepared}
-use Rattle.check_reached.proofs.live_sites.facts.facts_of.Given as goal
-
-abbrev pub invariant-loop-rule : goal.invariant-loop-rule
-invariant-loop-rule l = IsPrepared l.definitions l.rule 0 l.facts.numbers.keys l.facts.implications.items
