@@ -7,7 +7,8 @@ mod leaf;
 mod list;
 
 pub use crate::whole::argument::argument_at;
+pub use crate::whole::chunks::chunk_at;
 pub use crate::whole::integer::{INTEGERS_BELOW, integer_of};
 pub use crate::whole::item::whole_item;
-pub use crate::whole::leaf::simple_or_float;
-pub use crate::whole::list::{push_part, trimmed};
+pub use crate::whole::leaf::{are_there, simple_or_float};
+pub use crate::whole::list::{end_len, is_break, is_end, push_part, trimmed};

@@ -8,8 +8,20 @@ use Rattle.read_items.specs.Whole.Parts.{IsItemAt, AreFormsAt, ArePairsAt, IsEnd
 use Rattle.read_items.proofs.OfWhole.Joined.{with_form, forms_len-with, forms_flat-with, ok-with, text-with, depth-with, values-with, with_pair_form, pair_forms_len-with, pair_forms_flat-with, pairs_ok-with, pairs_text-with, pairs_depth-with, pair_values-with}
 
 -- an item with the depth of its form
-pub form_depth : (d : ℕ) (b : List ℕ) (at end : ℕ) (x : Item) (h : IsItemAt d b at (view x) end) → depth_of (meaning h.written) ≤ d
+form_depth : (d : ℕ) (b : List ℕ) (at end : ℕ) (x : Value) (h : IsItemAt d b at x end) → depth_of (meaning h.written) ≤ d
 form_depth d b at end x h = subst (λ y. depth_of y ≤ d) h.meant h.shallow
+
+-- forms, and the form of an item behind them
+pub one_form_more : (depth : ℕ) (b : List ℕ) (start at end : ℕ) (x : Value) (fs : Forms) → AreFormsAt depth b start fs at → (h : IsItemAt depth b at x end) → AreFormsAt depth b start (with_form fs h.written) end
+one_form_more depth b start at end x fs t h =
+    let g = h.written in
+    record {
+      ok = ok-with fs g t.ok h.ok;
+      text = text-with fs g t.text h.text;
+      shallow = depth-with depth fs g t.shallow (form_depth depth b at end x h);
+      placed = omega (arith, h.placed, t.placed, ap length (forms_flat-with fs g), length-append (forms_flat fs) (flat g));
+      is = t.is ∙ (ap (λ r. forms_flat fs ++ r) h.is ∙ (sym (append_assoc (forms_flat fs) (flat g) (drop end b)) ∙ ap (λ r. r ++ drop end b) (sym (forms_flat-with fs g))));
+    }
 
 -- members are in b from `start` to `at`, and these are their items
 pub record AreRead (depth : ℕ) (b : List ℕ) (start at : ℕ) (items : List Item) : Type 0 where
@@ -30,17 +42,10 @@ pub one_more : (depth : ℕ) (b : List ℕ) (start at end : ℕ) (items : List I
 one_more depth b start at end items x s h =
     let fs = s.written in
     let g = h.written in
-    let t = s.there in
     record {
       written = with_form fs g;
       counted = omega (arith, forms_len-with fs g, s.counted, length-append items (x ∷ []));
-      there = record {
-        ok = ok-with fs g t.ok h.ok;
-        text = text-with fs g t.text h.text;
-        shallow = depth-with depth fs g t.shallow (form_depth depth b at end x h);
-        placed = omega (arith, h.placed, t.placed, ap length (forms_flat-with fs g), length-append (forms_flat fs) (flat g));
-        is = t.is ∙ (ap (λ r. forms_flat fs ++ r) h.is ∙ (sym (append_assoc (forms_flat fs) (flat g) (drop end b)) ∙ ap (λ r. r ++ drop end b) (sym (forms_flat-with fs g))));
-      };
+      there = one_form_more depth b start at end (view x) fs s.there h;
       values = values-with items x fs g s.values h.meant;
     }
 
@@ -72,24 +77,30 @@ no_pairs_read depth b start items none = record {
   values = ap pairs_view none;
 }
 
+-- forms of pairs, and those of a key and a value behind them
+pub one_pair_form_more : (depth : ℕ) (b : List ℕ) (start at between end : ℕ) (x y : Value) (ps : PairForms) → ArePairsAt depth b start ps at → (h : IsItemAt depth b at x between) → (i : IsItemAt depth b between y end) → ArePairsAt depth b start (with_pair_form ps h.written i.written) end
+one_pair_form_more depth b start at between end x y ps t h i =
+    let k = h.written in
+    let v = i.written in
+    let front = pair_forms_flat ps in
+    let both : drop at b ≡ (flat k ++ flat v) ++ drop end b = h.is ∙ (ap (λ r. flat k ++ r) i.is ∙ sym (append_assoc (flat k) (flat v) (drop end b))) in
+    record {
+      ok = pairs_ok-with ps k v t.ok h.ok i.ok;
+      text = pairs_text-with ps k v t.text h.text i.text;
+      shallow = pairs_depth-with depth ps k v t.shallow (form_depth depth b at between x h) (form_depth depth b between end y i);
+      placed = omega (arith, h.placed, i.placed, t.placed, ap length (pair_forms_flat-with ps k v), length-append front (flat k ++ flat v), length-append (flat k) (flat v));
+      is = t.is ∙ (ap (λ r. front ++ r) both ∙ (sym (append_assoc front (flat k ++ flat v) (drop end b)) ∙ ap (λ r. r ++ drop end b) (sym (pair_forms_flat-with ps k v))));
+    }
+
 pub one_pair_more : (depth : ℕ) (b : List ℕ) (start at between end : ℕ) (items : List (Item × Item)) (p : Item × Item) → ArePairsRead depth b start at items → IsItemAt depth b at (view p.0) between → IsItemAt depth b between (view p.1) end → ArePairsRead depth b start end (items ++ p ∷ [])
 one_pair_more depth b start at between end items p s h i =
     let ps = s.written in
     let k = h.written in
     let v = i.written in
-    let t = s.there in
-    let front = pair_forms_flat ps in
-    let both : drop at b ≡ (flat k ++ flat v) ++ drop end b = h.is ∙ (ap (λ r. flat k ++ r) i.is ∙ sym (append_assoc (flat k) (flat v) (drop end b))) in
     record {
       written = with_pair_form ps k v;
       counted = omega (arith, pair_forms_len-with ps k v, s.counted, length-append items (p ∷ []));
-      there = record {
-        ok = pairs_ok-with ps k v t.ok h.ok i.ok;
-        text = pairs_text-with ps k v t.text h.text i.text;
-        shallow = pairs_depth-with depth ps k v t.shallow (form_depth depth b at between p.0 h) (form_depth depth b between end p.1 i);
-        placed = omega (arith, h.placed, i.placed, t.placed, ap length (pair_forms_flat-with ps k v), length-append front (flat k ++ flat v), length-append (flat k) (flat v));
-        is = t.is ∙ (ap (λ r. front ++ r) both ∙ (sym (append_assoc front (flat k ++ flat v) (drop end b)) ∙ ap (λ r. r ++ drop end b) (sym (pair_forms_flat-with ps k v))));
-      };
+      there = one_pair_form_more depth b start at between end (view p.0) (view p.1) ps s.there h i;
       values = pair_values-with items p ps k v s.values h.meant i.meant;
     }
 

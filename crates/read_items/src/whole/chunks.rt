@@ -71,8 +71,8 @@ fn joined_chunks(
     Ok(Some((joined, at + 1)))
 }
 
-// What the chunk of this major type at `at` holds, and where it ends. `None` also for a text that is not UTF-8.
-fn chunk_at(bytes: &[u8], at: usize, major: u8) -> Option<(&[u8], usize)>
+/// What the chunk of this major type at `at` holds, and where it ends. `None` also for a text that is not UTF-8.
+pub fn chunk_at(bytes: &[u8], at: usize, major: u8) -> Option<(&[u8], usize)>
     ensures { IfSome result (λ r. IsChunkAt major bytes.now at r.0.now r.1) }
 {
     if at >= bytes.len() || bytes[at] / 32 != major {
