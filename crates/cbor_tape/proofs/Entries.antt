@@ -1,0 +1,172 @@
+-- Entries of items one after the other, and the entry of an item over those of what is below it.
+use Rattle.std.proofs.Common.{◌≡◌, ℕ, suc, ◌+◌, ◌<◌, ◌≤◌, false, List, [], ◌∷◌, ◌++◌, length, take, drop, get_or, refl, sym, ap, ◌∙◌, subst, inl, inr, arith, append_assoc, append-nil, length-append, length-drop, Option}
+use Rattle.std.proofs.Math.ListN.{set}
+use Rattle.std.proofs.Math.Seq.{take-set-lt}
+use Rattle.std.proofs.lemmas.List.{take_more, set_at, length-take-le}
+use Rattle.cbor_data.specs.Value.{Value, uint, nint, bytes, text, array, pairs, tag, simple, float, Values, no_values, value, Pairs, no_pairs, pair, place_count, values_place_count, pairs_place_count, places, values_places, pairs_places}
+use Rattle.cbor_data.specs.Validity.{IsValid, IsRepeatedKeyAmong}
+use Rattle.cbor_data.specs.Forms.{flat, meanings, Spells}
+use Rattle.cbor_data.proofs.Lemmas.{form_some, spelled_places}
+use Rattle.item_nodes.specs.Apart.{has_parts, AreValuesValid}
+use Rattle.read_items.specs.Whole.Parts.{IsItemAt, IsArrayAt, IsTagAt}
+use Rattle.read_items.proofs.OfWhole.Lemmas.{whole_front, deeper_front}
+use Rattle.cbor_tape.specs.declared.entry.Entry.{Entry}
+use Rattle.cbor_tape.specs.Tape.{IsEntryOf, AreEntriesOf, IsWholeTape}
+use Rattle.cbor_tape.specs.Parts.{entry, IsLeafAt, IsTapedAt, IsArrayTapedAt, IsTagTapedAt}
+
+-- an item has as many places as are counted
+mutual
+  pub places_counted : (x : Value) → length (places x) ≡ place_count x
+  places_counted (uint n) = refl
+  places_counted (nint n) = refl
+  places_counted (bytes bs) = refl
+  places_counted (text bs) = refl
+  places_counted (array xs) = ap suc (values_places_counted xs)
+  places_counted (pairs ps) = ap suc (pairs_places_counted ps)
+  places_counted (tag n x) = ap suc (places_counted x)
+  places_counted (simple n) = refl
+  places_counted (float w n) = refl
+
+  pub values_places_counted : (xs : Values) → length (values_places xs) ≡ values_place_count xs
+  values_places_counted no_values = refl
+  values_places_counted (value x xs) = omega (arith, length-append (places x) (values_places xs), places_counted x, values_places_counted xs)
+
+  pub pairs_places_counted : (ps : Pairs) → length (pairs_places ps) ≡ pairs_place_count ps
+  pairs_places_counted no_pairs = refl
+  pairs_places_counted (pair k v ps) =
+      omega (arith, length-append (places k) (places v ++ pairs_places ps), length-append (places v) (pairs_places ps), places_counted k, places_counted v, pairs_places_counted ps)
+
+-- and one at least
+pub some_place : (x : Value) → 0 < place_count x
+some_place (uint n) = omega arith
+some_place (nint n) = omega arith
+some_place (bytes bs) = omega arith
+some_place (text bs) = omega arith
+some_place (array xs) = omega arith
+some_place (pairs ps) = omega arith
+some_place (tag n x) = omega arith
+some_place (simple n) = omega arith
+some_place (float w n) = omega arith
+
+-- entries of the one items, and behind them those of the others
+pub entries-append : (b : List ℕ) (p q : ℕ) (xs ys : List Value) (es fs : List Entry) → q ≡ p + length xs → AreEntriesOf b p xs es → AreEntriesOf b q ys fs → AreEntriesOf b p (xs ++ ys) (es ++ fs)
+entries-append b p q [] ys [] fs is h k = let same : q ≡ p = omega arith in subst (λ n. AreEntriesOf b n ys fs) same k
+entries-append b p q (x ∷ xs) ys (e ∷ es) fs is h k = let next : q ≡ suc p + length xs = omega arith in (h.0, entries-append b (suc p) q xs ys es fs next h.1 k)
+entries-append b p q [] ys (e ∷ es) fs is h k = absurd h
+entries-append b p q (x ∷ xs) ys [] fs is h k = absurd h
+
+-- the entry of an item that is in b
+entry_there : (d : ℕ) (b : List ℕ) (at place end next : ℕ) (x : Value) → IsItemAt d b at x end → next ≡ place + place_count x → IsEntryOf b place x (entry at next)
+entry_there d b at place end next x h e = record {
+  spelling = flat h.written;
+  after = drop end b;
+  spells = record { written = h.written; ok = h.ok; text = h.text; is = refl; meant = h.meant };
+  is = h.is;
+  next = e;
+}
+
+-- an entry that is put before those behind it, which are there
+put_before : (old mid : List Entry) (p next : ℕ) (e : Entry) (below : List Entry) → p < length old → p < next → take next mid ≡ take (suc p) old ++ below → take next (set mid p e) ≡ take p old ++ e ∷ below
+put_before old mid p next e below in_old before is =
+    let d = get_or old p e in
+    let one : take (suc p) old ≡ take p old ++ d ∷ [] = let same : suc p ≡ p + 1 = omega arith in ap (λ n. take n old) same ∙ take_more old p e in_old in
+    let front : take next mid ≡ take p old ++ d ∷ below = is ∙ (ap (λ es. es ++ below) one ∙ append_assoc (take p old) (d ∷ []) below) in
+    take-set-lt next mid p e before ∙ (ap (λ es. set es p e) front ∙ set_at (take p old) d below e p (length-take-le p old (omega arith)))
+
+-- an item whose entry is put after those of what is below it
+pub over : (d : ℕ) (b : List ℕ) (at place end next : ℕ) (x : Value) (below : List Value) (es old mid new : List Entry) → IsItemAt d b at x end → IsValid x → next ≡ place + place_count x → places x ≡ x ∷ below → AreEntriesOf b (suc place) below es →
+    take next mid ≡ take (suc place) old ++ es → place < length old → new ≡ set mid place (entry at next) → IsTapedAt d b at place old new end next
+over d b at place end next x below es old mid new h valid count all s is in_old put = record {
+  value = x;
+  there = h;
+  valid = valid;
+  counted = count;
+  entries = entry at next ∷ es;
+  stand = subst (λ xs. AreEntriesOf b place xs (entry at next ∷ es)) (sym all) (entry_there d b at place end next x h count, s);
+  tape = ap (take next) put ∙ put_before old mid place next (entry at next) es in_old (omega (arith, some_place x)) is;
+}
+
+-- what holds of an item that has no parts
+record IsAlone (x : Value) : Type 0 where
+  one : place_count x ≡ 1
+  only : places x ≡ x ∷ []
+  valid : IsValid x
+
+alone : (x : Value) → has_parts x ≡ false → IsAlone x
+alone (uint n) h = record { one = refl; only = refl; valid = λ i r. r }
+alone (nint n) h = record { one = refl; only = refl; valid = λ i r. r }
+alone (bytes bs) h = record { one = refl; only = refl; valid = λ i r. r }
+alone (text bs) h = record { one = refl; only = refl; valid = λ i r. r }
+alone (array xs) h = absurd (cc)
+alone (pairs ps) h = absurd (cc)
+alone (tag n x) h = absurd (cc)
+alone (simple n) h = record { one = refl; only = refl; valid = λ i r. r }
+alone (float w n) h = record { one = refl; only = refl; valid = λ i r. r }
+
+-- what is no deeper than the one is no deeper than the other
+deeper : (d e : ℕ) (b : List ℕ) (at end : ℕ) (x : Value) → d ≤ e → IsItemAt d b at x end → IsItemAt e b at x end
+deeper d e b at end x less h = record { written = h.written; ok = h.ok; text = h.text; meant = h.meant; shallow = omega (arith, h.shallow); placed = h.placed; is = h.is }
+
+pub leaf_taped : (d : ℕ) (b : List ℕ) (at place end next : ℕ) (old new : List Entry) → IsLeafAt b at end → place < length old → next ≡ place + 1 → new ≡ set old place (entry at (place + 1)) → IsTapedAt d b at place old new end next
+leaf_taped d b at place end next old new l in_old e put =
+    let x = l.value in
+    let a : IsAlone x = alone x l.plain in
+    let same : next ≡ suc place = omega arith in
+    over d b at place end next x [] [] old old new (deeper 0 d b at end x (omega arith) l.there) a.valid (omega (arith, a.one)) a.only tt
+    (ap (λ n. take n old) same ∙ sym (append-nil (take (suc place) old))) in_old (put ∙ ap (λ n. set old place (entry at n)) (sym e))
+
+members_valid : (xs : Values) → AreValuesValid xs → (i : ℕ) → IsRepeatedKeyAmong xs i → ⊥
+members_valid no_values v i h = h
+members_valid (value x xs) v i (inl h) = v.0 i h
+members_valid (value x xs) v i (inr h) = members_valid xs v.1 h.0 h.2
+
+-- the array and the tag, without their tapes
+pub array_there : (d : ℕ) (count : Option ℕ) (b : List ℕ) (at start place end next : ℕ) (old new : List Entry) → (s : IsArrayTapedAt d count b at start place old new end next) → IsArrayAt d count b start (array (meanings s.written)) end
+array_there d count b at start place end next old new s = record { written = s.written; stop = s.stop; some = s.some; there = s.there.there; ends = s.ends; placed = s.placed; meant = refl }
+
+pub tag_there : (d n : ℕ) (b : List ℕ) (at start place end next : ℕ) (old new : List Entry) → (s : IsTagTapedAt d b at start place old new end next) → IsTagAt d n b start (tag n s.there.value) end
+tag_there d n b at start place end next old new s = record { content = s.there.value; some = s.some; there = s.there.there; meant = refl }
+
+-- and with them
+pub array_taped : (d : ℕ) (count : Option ℕ) (b : List ℕ) (at start place end next : ℕ) (old new : List Entry) → (s : IsArrayTapedAt d count b at start place old new end next) → IsItemAt d b at (array (meanings s.written)) end → place < length old → IsTapedAt d b at place old new end next
+array_taped d count b at start place end next old new s h in_old =
+    let t = s.there in
+    over d b at place end next (array (meanings s.written)) (values_places (meanings s.written)) t.entries old s.mid new h (λ i r. members_valid (meanings s.written) t.valid r.0 r.2) (omega (arith, t.counted)) refl t.stand t.tape in_old s.put
+
+pub tag_taped : (d n : ℕ) (b : List ℕ) (at start place end next : ℕ) (old new : List Entry) → (s : IsTagTapedAt d b at start place old new end next) → IsItemAt d b at (tag n s.there.value) end → place < length old → IsTapedAt d b at place old new end next
+tag_taped d n b at start place end next old new s h in_old =
+    let t = s.there in
+    over d b at place end next (tag n t.value) (places t.value) t.entries old s.mid new h (λ i r. t.valid r.0 r.2) (omega (arith, t.counted)) refl t.stand t.tape in_old s.put
+
+-- what is read moves on, and no faster on the tape than in the bytes
+pub record Moves (b : List ℕ) (at place end next : ℕ) : Type 0 where
+  pub within : end ≤ length b
+  pub on : at < end
+  pub further : place < next
+  pub slower : next + at ≤ place + end
+
+pub taped_moves : (d : ℕ) (b : List ℕ) (at place end next : ℕ) (old new : List Entry) → IsTapedAt d b at place old new end next → Moves b at place end next
+taped_moves d b at place end next old new t =
+    let f = t.there.written in
+    let spelled : Spells t.value (flat f) = record { written = f; ok = t.there.ok; text = t.there.text; is = refl; meant = t.there.meant } in
+    let few : place_count t.value ≤ length (flat f) = spelled_places t.value (flat f) spelled in
+    let some : 0 < length (flat f) = form_some f in
+    let one : 0 < place_count t.value = some_place t.value in
+    let len : length (drop at b) ≡ length (flat f) + length (drop end b) = ap length t.there.is ∙ length-append (flat f) (drop end b) in
+    record {
+      within = omega (arith, len, t.there.placed, length-drop at b, length-drop end b);
+      on = omega (arith, t.there.placed);
+      further = omega (arith, t.counted);
+      slower = omega (arith, t.counted, t.there.placed);
+    }
+
+-- the front of bytes
+pub whole_taped : (d e : ℕ) (b : List ℕ) (old new : List Entry) (end next : ℕ) → d ≤ e → IsTapedAt d b 0 0 old new end next → IsWholeTape e b new end
+whole_taped d e b old new end next less t =
+    let count : next ≡ place_count t.value = omega (arith, t.counted) in
+    record {
+      value = t.value;
+      whole = deeper_front d e b t.value end less (whole_front d b t.value end t.there);
+      valid = t.valid;
+      stands = subst (AreEntriesOf b 0 (places t.value)) (sym t.tape ∙ ap (λ n. take n new) count) t.stand;
+    }

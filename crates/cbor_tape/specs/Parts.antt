@@ -1,0 +1,62 @@
+-- What is read where in bytes, and what of the tape is written.
+use Rattle.std.specs.Prelude.{◌≡◌, ℕ, suc, ◌+◌, ◌-◌, ◌<◌, List, ◌++◌, take, Option, false, slice_set}
+use Rattle.cbor_data.specs.Value.{Value, place_count, values_place_count, places, values_places}
+use Rattle.cbor_data.specs.Validity.{IsValid}
+use Rattle.cbor_data.specs.Forms.{Forms, forms_len, meanings}
+use Rattle.item_nodes.specs.Apart.{has_parts, AreValuesValid}
+use Rattle.read_items.specs.Whole.Parts.{AreFormsAt, AreJoinedAt, IsEnd, IsItemAt, end_length}
+use Rattle.cbor_tape.specs.declared.entry.Entry.{Entry}
+use Rattle.cbor_tape.specs.Tape.{AreEntriesOf}
+
+-- an item without parts is in b from `at` up to `end`
+pub record IsLeafAt (b : List ℕ) (at end : ℕ) : Type 0 where
+  pub value : Value
+  pub plain : has_parts value ≡ false
+  pub there : IsItemAt 0 b at value end
+
+-- chunks of this major type are in b from `start` on, with a break at their end
+pub record AreSomeChunksAt (major : ℕ) (b : List ℕ) (start end : ℕ) : Type 0 where
+  pub content : List ℕ
+  pub there : AreJoinedAt major b start content end
+
+-- A valid item no deeper than this is in b from `at` up to `end`. From this place on the tape has its entries, up to the place
+-- `next`; before, it is as it was.
+pub record IsTapedAt (depth : ℕ) (b : List ℕ) (at place : ℕ) (old new : List Entry) (end next : ℕ) : Type 0 where
+  pub value : Value
+  pub there : IsItemAt depth b at value end
+  pub valid : IsValid value
+  pub counted : next ≡ place + place_count value
+  pub entries : List Entry
+  pub stand : AreEntriesOf b place (places value) entries
+  pub tape : take next new ≡ take place old ++ entries
+
+-- forms of valid items no deeper than this are in b from `start` up to `end`, and from this place on the tape has their entries
+pub record AreTapedAt (depth : ℕ) (b : List ℕ) (start place : ℕ) (old new : List Entry) (fs : Forms) (end next : ℕ) : Type 0 where
+  pub there : AreFormsAt depth b start fs end
+  pub valid : AreValuesValid (meanings fs)
+  pub counted : next ≡ place + values_place_count (meanings fs)
+  pub entries : List Entry
+  pub stand : AreEntriesOf b place (values_places (meanings fs)) entries
+  pub tape : take next new ≡ take place old ++ entries
+
+abbrev pub entry : (head next : ℕ) → Entry
+entry head next = record { head = head; next = next }
+
+-- The members of an array, so many or those up to a break, are in b from `start` on. The array's first byte is at `at`, and its
+-- entry, at this place, is written after theirs.
+pub record IsArrayTapedAt (depth : ℕ) (count : Option ℕ) (b : List ℕ) (at start place : ℕ) (old new : List Entry) (end next : ℕ) : Type 0 where
+  pub written : Forms
+  pub stop : ℕ
+  pub mid : List Entry
+  pub some : 0 < depth
+  pub there : AreTapedAt (depth - 1) b start (suc place) old mid written stop next
+  pub ends : IsEnd count (forms_len written) b stop
+  pub placed : end ≡ stop + end_length count
+  pub put : new ≡ slice_set mid place (entry at next)
+
+-- the same of a tag and its content
+pub record IsTagTapedAt (depth : ℕ) (b : List ℕ) (at start place : ℕ) (old new : List Entry) (end next : ℕ) : Type 0 where
+  pub mid : List Entry
+  pub some : 0 < depth
+  pub there : IsTapedAt (depth - 1) b start (suc place) old mid end next
+  pub put : new ≡ slice_set mid place (entry at next)
