@@ -4,15 +4,15 @@ use Rattle.std.proofs.Math.ListN.{set}
 use Rattle.std.proofs.Math.Seq.{take-set-lt}
 use Rattle.std.proofs.lemmas.List.{take_more, set_at, length-take-le}
 use Rattle.cbor_data.specs.Value.{Value, uint, nint, bytes, text, array, pairs, tag, simple, float, Values, no_values, value, Pairs, no_pairs, pair, place_count, values_place_count, pairs_place_count, places, values_places, pairs_places}
-use Rattle.cbor_data.specs.Validity.{IsValid, IsRepeatedKeyAmong}
-use Rattle.cbor_data.specs.Forms.{flat, meanings, Spells}
+use Rattle.cbor_data.specs.Validity.{IsValid, IsRepeatedKeyAmong, IsRepeatedKeyAfter}
+use Rattle.cbor_data.specs.Forms.{flat, meanings, pair_meanings, Spells}
 use Rattle.cbor_data.proofs.Lemmas.{form_some, spelled_places}
-use Rattle.item_nodes.specs.Apart.{has_parts, AreValuesValid}
-use Rattle.read_items.specs.Whole.Parts.{IsItemAt, IsArrayAt, IsTagAt}
+use Rattle.item_nodes.specs.Apart.{has_parts, AreKeysApart, ArePartsValid, AreValuesValid}
+use Rattle.read_items.specs.Whole.Parts.{IsItemAt, IsArrayAt, IsMapAt, IsTagAt}
 use Rattle.read_items.proofs.OfWhole.Lemmas.{whole_front, deeper_front}
 use Rattle.cbor_tape.specs.declared.entry.Entry.{Entry}
 use Rattle.cbor_tape.specs.Tape.{IsEntryOf, AreEntriesOf, IsWholeTape}
-use Rattle.cbor_tape.specs.Parts.{entry, IsLeafAt, IsTapedAt, IsArrayTapedAt, IsTagTapedAt}
+use Rattle.cbor_tape.specs.Parts.{entry, IsLeafAt, IsTapedAt, IsArrayTapedAt, IsMapTapedAt, IsTagTapedAt}
 
 -- an item has as many places as are counted
 mutual
@@ -36,17 +36,20 @@ mutual
   pairs_places_counted (pair k v ps) =
       omega (arith, length-append (places k) (places v ++ pairs_places ps), length-append (places v) (pairs_places ps), places_counted k, places_counted v, pairs_places_counted ps)
 
--- and one at least
-pub some_place : (x : Value) → 0 < place_count x
-some_place (uint n) = omega arith
-some_place (nint n) = omega arith
-some_place (bytes bs) = omega arith
-some_place (text bs) = omega arith
-some_place (array xs) = omega arith
-some_place (pairs ps) = omega arith
-some_place (tag n x) = omega arith
-some_place (simple n) = omega arith
-some_place (float w n) = omega arith
+-- the first of its places is the item
+pub first_place : (x : Value) → (below : List Value) × (places x ≡ x ∷ below)
+first_place (uint n) = ([], refl)
+first_place (nint n) = ([], refl)
+first_place (bytes bs) = ([], refl)
+first_place (text bs) = ([], refl)
+first_place (array xs) = (values_places xs, refl)
+first_place (pairs ps) = (pairs_places ps, refl)
+first_place (tag n x) = (places x, refl)
+first_place (simple n) = ([], refl)
+first_place (float w n) = ([], refl)
+
+some_place : (x : Value) → 0 < place_count x
+some_place x = omega (arith, places_counted x, ap length (first_place x).1)
 
 -- entries of the one items, and behind them those of the others
 pub entries-append : (b : List ℕ) (p q : ℕ) (xs ys : List Value) (es fs : List Entry) → q ≡ p + length xs → AreEntriesOf b p xs es → AreEntriesOf b q ys fs → AreEntriesOf b p (xs ++ ys) (es ++ fs)
@@ -120,9 +123,19 @@ members_valid no_values v i h = h
 members_valid (value x xs) v i (inl h) = v.0 i h
 members_valid (value x xs) v i (inr h) = members_valid xs v.1 h.0 h.2
 
--- the array and the tag, without their tapes
+after_valid : (earlier : List Value) (ps : Pairs) → AreKeysApart earlier ps → ArePartsValid ps → (i : ℕ) → IsRepeatedKeyAfter earlier ps i → ⊥
+after_valid earlier no_pairs a v i h = h
+after_valid earlier (pair k w ps) a v i (inl h) = a.0 h.1
+after_valid earlier (pair k w ps) a v i (inr (inl h)) = v.0 i h
+after_valid earlier (pair k w ps) a v i (inr (inr (inl h))) = v.1.0 h.0 h.2
+after_valid earlier (pair k w ps) a v i (inr (inr (inr h))) = after_valid (k ∷ earlier) ps a.1 v.1.1 h.0 h.2
+
+-- the array, the map and the tag, without their tapes
 pub array_there : (d : ℕ) (count : Option ℕ) (b : List ℕ) (at start place end next : ℕ) (old new : List Entry) → (s : IsArrayTapedAt d count b at start place old new end next) → IsArrayAt d count b start (array (meanings s.written)) end
 array_there d count b at start place end next old new s = record { written = s.written; stop = s.stop; some = s.some; there = s.there.there; ends = s.ends; placed = s.placed; meant = refl }
+
+pub map_there : (d : ℕ) (count : Option ℕ) (b : List ℕ) (at start place end next : ℕ) (old new : List Entry) → (s : IsMapTapedAt d count b at start place old new end next) → IsMapAt d count b start (pairs (pair_meanings s.written)) end
+map_there d count b at start place end next old new s = record { written = s.written; stop = s.stop; some = s.some; there = s.there.there; ends = s.ends; placed = s.placed; meant = refl }
 
 pub tag_there : (d n : ℕ) (b : List ℕ) (at start place end next : ℕ) (old new : List Entry) → (s : IsTagTapedAt d b at start place old new end next) → IsTagAt d n b start (tag n s.there.value) end
 tag_there d n b at start place end next old new s = record { content = s.there.value; some = s.some; there = s.there.there; meant = refl }
@@ -132,6 +145,11 @@ pub array_taped : (d : ℕ) (count : Option ℕ) (b : List ℕ) (at start place 
 array_taped d count b at start place end next old new s h in_old =
     let t = s.there in
     over d b at place end next (array (meanings s.written)) (values_places (meanings s.written)) t.entries old s.mid new h (λ i r. members_valid (meanings s.written) t.valid r.0 r.2) (omega (arith, t.counted)) refl t.stand t.tape in_old s.put
+
+pub map_taped : (d : ℕ) (count : Option ℕ) (b : List ℕ) (at start place end next : ℕ) (old new : List Entry) → (s : IsMapTapedAt d count b at start place old new end next) → IsItemAt d b at (pairs (pair_meanings s.written)) end → place < length old → IsTapedAt d b at place old new end next
+map_taped d count b at start place end next old new s h in_old =
+    let t = s.there in
+    over d b at place end next (pairs (pair_meanings s.written)) (pairs_places (pair_meanings s.written)) t.entries old s.mid new h (λ i r. after_valid [] (pair_meanings s.written) t.apart t.valid r.0 r.2) (omega (arith, t.counted)) refl t.stand t.tape in_old s.put
 
 pub tag_taped : (d n : ℕ) (b : List ℕ) (at start place end next : ℕ) (old new : List Entry) → (s : IsTagTapedAt d b at start place old new end next) → IsItemAt d b at (tag n s.there.value) end → place < length old → IsTapedAt d b at place old new end next
 tag_taped d n b at start place end next old new s h in_old =

@@ -1,3 +1,6 @@
 mod Entries
-mod Members
 mod Leaves
+mod Marks
+mod Members
+mod Pairs
+mod Walks

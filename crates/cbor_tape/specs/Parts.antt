@@ -1,10 +1,10 @@
 -- What is read where in bytes, and what of the tape is written.
-use Rattle.std.specs.Prelude.{◌≡◌, ℕ, suc, ◌+◌, ◌-◌, ◌<◌, List, ◌++◌, take, Option, false, slice_set}
-use Rattle.cbor_data.specs.Value.{Value, place_count, values_place_count, places, values_places}
+use Rattle.std.specs.Prelude.{◌≡◌, ℕ, suc, ◌+◌, ◌-◌, ◌<◌, List, [], ◌++◌, take, Option, false, slice_set}
+use Rattle.cbor_data.specs.Value.{Value, place_count, values_place_count, pairs_place_count, places, values_places, pairs_places}
 use Rattle.cbor_data.specs.Validity.{IsValid}
-use Rattle.cbor_data.specs.Forms.{Forms, forms_len, meanings}
-use Rattle.item_nodes.specs.Apart.{has_parts, AreValuesValid}
-use Rattle.read_items.specs.Whole.Parts.{AreFormsAt, AreJoinedAt, IsEnd, IsItemAt, end_length}
+use Rattle.cbor_data.specs.Forms.{Forms, PairForms, forms_len, pair_forms_len, meanings, pair_meanings}
+use Rattle.item_nodes.specs.Apart.{has_parts, AreKeysApart, ArePartsValid, AreValuesValid}
+use Rattle.read_items.specs.Whole.Parts.{AreFormsAt, AreJoinedAt, ArePairsAt, IsEnd, IsItemAt, end_length}
 use Rattle.cbor_tape.specs.declared.entry.Entry.{Entry}
 use Rattle.cbor_tape.specs.Tape.{AreEntriesOf}
 
@@ -39,6 +39,16 @@ pub record AreTapedAt (depth : ℕ) (b : List ℕ) (start place : ℕ) (old new 
   pub stand : AreEntriesOf b place (values_places (meanings fs)) entries
   pub tape : take next new ≡ take place old ++ entries
 
+-- the same of pairs; no key is the same as another
+pub record ArePairsTapedAt (depth : ℕ) (b : List ℕ) (start place : ℕ) (old new : List Entry) (ps : PairForms) (end next : ℕ) : Type 0 where
+  pub there : ArePairsAt depth b start ps end
+  pub valid : ArePartsValid (pair_meanings ps)
+  pub apart : AreKeysApart [] (pair_meanings ps)
+  pub counted : next ≡ place + pairs_place_count (pair_meanings ps)
+  pub entries : List Entry
+  pub stand : AreEntriesOf b place (pairs_places (pair_meanings ps)) entries
+  pub tape : take next new ≡ take place old ++ entries
+
 abbrev pub entry : (head next : ℕ) → Entry
 entry head next = record { head = head; next = next }
 
@@ -51,6 +61,17 @@ pub record IsArrayTapedAt (depth : ℕ) (count : Option ℕ) (b : List ℕ) (at 
   pub some : 0 < depth
   pub there : AreTapedAt (depth - 1) b start (suc place) old mid written stop next
   pub ends : IsEnd count (forms_len written) b stop
+  pub placed : end ≡ stop + end_length count
+  pub put : new ≡ slice_set mid place (entry at next)
+
+-- the same of a map and its pairs
+pub record IsMapTapedAt (depth : ℕ) (count : Option ℕ) (b : List ℕ) (at start place : ℕ) (old new : List Entry) (end next : ℕ) : Type 0 where
+  pub written : PairForms
+  pub stop : ℕ
+  pub mid : List Entry
+  pub some : 0 < depth
+  pub there : ArePairsTapedAt (depth - 1) b start (suc place) old mid written stop next
+  pub ends : IsEnd count (pair_forms_len written) b stop
   pub placed : end ≡ stop + end_length count
   pub put : new ≡ slice_set mid place (entry at next)
 

@@ -4,6 +4,7 @@
 
 mod entry;
 mod item;
+mod keys;
 mod leaf;
 
 pub use crate::entry::Entry;

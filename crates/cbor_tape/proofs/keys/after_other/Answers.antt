@@ -1,0 +1,9 @@
+use Rattle.std.proofs.Common.{◌∙◌}
+use Rattle.cbor_tape.specs.Keys.{mark_of}
+use Rattle.cbor_tape.proofs.Walks.{next_pair}
+use Rattle.cbor_tape.proofs.keys.after_other.Goals as goal
+
+pub returns-in_default : goal.returns-in_default
+returns-in_default c =
+    next_pair c.args.bytes.now c.args.tape.now c.args.place c.args.last (mark_of c.args.key.now) (mark_of c.in_ok-other.other) _ c.requires.place c.if-value-last.false c.in_ok-other.ensures
+    (λ same. c.in_default.not-Equal (c.compare.ensures ∙ same))
