@@ -12,7 +12,7 @@ use Rattle.read_items.specs.Whole.Parts.{IsItemAt, IsArrayAt, IsMapAt, IsTagAt}
 use Rattle.read_items.proofs.OfWhole.Lemmas.{whole_front, deeper_front}
 use Rattle.cbor_tape.specs.declared.entry.Entry.{Entry}
 use Rattle.cbor_tape.specs.Tape.{IsEntryOf, AreEntriesOf, IsWholeTape}
-use Rattle.cbor_tape.specs.Parts.{entry, IsLeafAt, IsTapedAt, IsArrayTapedAt, IsMapTapedAt, IsTagTapedAt}
+use Rattle.cbor_tape.specs.Parts.{IsLeafAt, IsTapedAt, IsInsideTapedAt, AreMembersTapedAt, AreMapPairsTapedAt, IsContentTapedAt}
 
 -- an item has as many places as are counted
 mutual
@@ -58,16 +58,6 @@ entries-append b p q (x ∷ xs) ys (e ∷ es) fs is h k = let next : q ≡ suc p
 entries-append b p q [] ys (e ∷ es) fs is h k = absurd h
 entries-append b p q (x ∷ xs) ys [] fs is h k = absurd h
 
--- the entry of an item that is in b
-entry_there : (d : ℕ) (b : List ℕ) (at place end next : ℕ) (x : Value) → IsItemAt d b at x end → next ≡ place + place_count x → IsEntryOf b place x (entry at next)
-entry_there d b at place end next x h e = record {
-  spelling = flat h.written;
-  after = drop end b;
-  spells = record { written = h.written; ok = h.ok; text = h.text; is = refl; meant = h.meant };
-  is = h.is;
-  next = e;
-}
-
 -- an entry that is put before those behind it, which are there
 put_before : (old mid : List Entry) (p next : ℕ) (e : Entry) (below : List Entry) → p < length old → p < next → take next mid ≡ take (suc p) old ++ below → take next (set mid p e) ≡ take p old ++ e ∷ below
 put_before old mid p next e below in_old before is =
@@ -76,47 +66,86 @@ put_before old mid p next e below in_old before is =
     let front : take next mid ≡ take p old ++ d ∷ below = is ∙ (ap (λ es. es ++ below) one ∙ append_assoc (take p old) (d ∷ []) below) in
     take-set-lt next mid p e before ∙ (ap (λ es. set es p e) front ∙ set_at (take p old) d below e p (length-take-le p old (omega arith)))
 
--- an item whose entry is put after those of what is below it
-pub over : (d : ℕ) (b : List ℕ) (at place end next : ℕ) (x : Value) (below : List Value) (es old mid new : List Entry) → IsItemAt d b at x end → IsValid x → next ≡ place + place_count x → places x ≡ x ∷ below → AreEntriesOf b (suc place) below es →
-    take next mid ≡ take (suc place) old ++ es → place < length old → new ≡ set mid place (entry at next) → IsTapedAt d b at place old new end next
-over d b at place end next x below es old mid new h valid count all s is in_old put = record {
-  value = x;
-  there = h;
-  valid = valid;
-  counted = count;
-  entries = entry at next ∷ es;
-  stand = subst (λ xs. AreEntriesOf b place xs (entry at next ∷ es)) (sym all) (entry_there d b at place end next x h count, s);
-  tape = ap (take next) put ∙ put_before old mid place next (entry at next) es in_old (omega (arith, some_place x)) is;
-}
+-- an item has more places than are below it by one, and no more places than bytes
+pub record Extends (b : List ℕ) (at place end next : ℕ) : Type 0 where
+  pub within : end ≤ length b
+  pub on : at < end
+  pub slower : next + at < place + end
+
+pub extends : (d : ℕ) (b : List ℕ) (at place end next : ℕ) (old new : List Entry) → IsInsideTapedAt d b at place old new end next → Extends b at place end next
+extends d b at place end next old new t =
+    let f = t.there.written in
+    let spelled : Spells t.value (flat f) = record { written = f; ok = t.there.ok; text = t.there.text; is = refl; meant = t.there.meant } in
+    let few : place_count t.value ≤ length (flat f) = spelled_places t.value (flat f) spelled in
+    let counted : suc (length t.below) ≡ place_count t.value = sym (ap length t.all) ∙ places_counted t.value in
+    let some : 0 < length (flat f) = form_some f in
+    let len : length (drop at b) ≡ length (flat f) + length (drop end b) = ap length t.there.is ∙ length-append (flat f) (drop end b) in
+    record {
+      within = omega (arith, len, t.there.placed, length-drop at b, length-drop end b);
+      on = omega (arith, t.there.placed);
+      slower = omega (arith, t.counted, t.there.placed);
+    }
+
+-- the item with its entry
+pub over : (d : ℕ) (b : List ℕ) (at place end next : ℕ) (old mid : List Entry) → place < length old → IsInsideTapedAt d b at (place + 1) old mid end next → IsTapedAt d b at place old (set mid place (record { head = at; next = next })) end next
+over d b at place end next old mid in_old t =
+    let e : Entry = record { head = at; next = next } in
+    let f = t.there.written in
+    let counted : suc (length t.below) ≡ place_count t.value = sym (ap length t.all) ∙ places_counted t.value in
+    let count : next ≡ place + place_count t.value = omega (arith, t.counted) in
+    let same : place + 1 ≡ suc place = omega arith in
+    let here : IsEntryOf b place t.value e = record {
+      spelling = flat f;
+      after = drop end b;
+      spells = record { written = f; ok = t.there.ok; text = t.there.text; is = refl; meant = t.there.meant };
+      is = t.there.is;
+      next = count;
+    } in
+    record {
+      value = t.value;
+      there = t.there;
+      valid = t.valid;
+      counted = count;
+      entries = e ∷ t.entries;
+      stand = subst (λ xs. AreEntriesOf b place xs (e ∷ t.entries)) (sym t.all) (here, subst (λ n. AreEntriesOf b n t.below t.entries) same t.stand);
+      tape = put_before old mid place next e t.entries in_old (omega arith) (t.tape ∙ ap (λ n. take n old ++ t.entries) same);
+    }
 
 -- what holds of an item that has no parts
 record IsAlone (x : Value) : Type 0 where
-  one : place_count x ≡ 1
   only : places x ≡ x ∷ []
   valid : IsValid x
 
 alone : (x : Value) → has_parts x ≡ false → IsAlone x
-alone (uint n) h = record { one = refl; only = refl; valid = λ i r. r }
-alone (nint n) h = record { one = refl; only = refl; valid = λ i r. r }
-alone (bytes bs) h = record { one = refl; only = refl; valid = λ i r. r }
-alone (text bs) h = record { one = refl; only = refl; valid = λ i r. r }
+alone (uint n) h = record { only = refl; valid = λ i r. r }
+alone (nint n) h = record { only = refl; valid = λ i r. r }
+alone (bytes bs) h = record { only = refl; valid = λ i r. r }
+alone (text bs) h = record { only = refl; valid = λ i r. r }
 alone (array xs) h = absurd (cc)
 alone (pairs ps) h = absurd (cc)
 alone (tag n x) h = absurd (cc)
-alone (simple n) h = record { one = refl; only = refl; valid = λ i r. r }
-alone (float w n) h = record { one = refl; only = refl; valid = λ i r. r }
+alone (simple n) h = record { only = refl; valid = λ i r. r }
+alone (float w n) h = record { only = refl; valid = λ i r. r }
 
 -- what is no deeper than the one is no deeper than the other
 deeper : (d e : ℕ) (b : List ℕ) (at end : ℕ) (x : Value) → d ≤ e → IsItemAt d b at x end → IsItemAt e b at x end
 deeper d e b at end x less h = record { written = h.written; ok = h.ok; text = h.text; meant = h.meant; shallow = omega (arith, h.shallow); placed = h.placed; is = h.is }
 
-pub leaf_taped : (d : ℕ) (b : List ℕ) (at place end next : ℕ) (old new : List Entry) → IsLeafAt b at end → place < length old → next ≡ place + 1 → new ≡ set old place (entry at (place + 1)) → IsTapedAt d b at place old new end next
-leaf_taped d b at place end next old new l in_old e put =
+pub leaf_inside : (d : ℕ) (b : List ℕ) (at place end : ℕ) (old : List Entry) → IsLeafAt b at end → IsInsideTapedAt d b at place old old end place
+leaf_inside d b at place end old l =
     let x = l.value in
     let a : IsAlone x = alone x l.plain in
-    let same : next ≡ suc place = omega arith in
-    over d b at place end next x [] [] old old new (deeper 0 d b at end x (omega arith) l.there) a.valid (omega (arith, a.one)) a.only tt
-    (ap (λ n. take n old) same ∙ sym (append-nil (take (suc place) old))) in_old (put ∙ ap (λ n. set old place (entry at n)) (sym e))
+    record {
+      value = x;
+      there = deeper 0 d b at end x (omega arith) l.there;
+      valid = a.valid;
+      below = [];
+      all = a.only;
+      counted = omega arith;
+      entries = [];
+      stand = tt;
+      tape = sym (append-nil (take place old));
+    }
 
 members_valid : (xs : Values) → AreValuesValid xs → (i : ℕ) → IsRepeatedKeyAmong xs i → ⊥
 members_valid no_values v i h = h
@@ -131,30 +160,64 @@ after_valid earlier (pair k w ps) a v i (inr (inr (inl h))) = v.1.0 h.0 h.2
 after_valid earlier (pair k w ps) a v i (inr (inr (inr h))) = after_valid (k ∷ earlier) ps a.1 v.1.1 h.0 h.2
 
 -- the array, the map and the tag, without their tapes
-pub array_there : (d : ℕ) (count : Option ℕ) (b : List ℕ) (at start place end next : ℕ) (old new : List Entry) → (s : IsArrayTapedAt d count b at start place old new end next) → IsArrayAt d count b start (array (meanings s.written)) end
-array_there d count b at start place end next old new s = record { written = s.written; stop = s.stop; some = s.some; there = s.there.there; ends = s.ends; placed = s.placed; meant = refl }
 
-pub map_there : (d : ℕ) (count : Option ℕ) (b : List ℕ) (at start place end next : ℕ) (old new : List Entry) → (s : IsMapTapedAt d count b at start place old new end next) → IsMapAt d count b start (pairs (pair_meanings s.written)) end
-map_there d count b at start place end next old new s = record { written = s.written; stop = s.stop; some = s.some; there = s.there.there; ends = s.ends; placed = s.placed; meant = refl }
+pub array_there : (d : ℕ) (count : Option ℕ) (b : List ℕ) (start place end next : ℕ) (old new : List Entry) → (s : AreMembersTapedAt d count b start place old new end next) → IsArrayAt d count b start (array (meanings s.written)) end
+array_there d count b start place end next old new s = record { written = s.written; stop = s.stop; some = s.some; there = s.there.there; ends = s.ends; placed = s.placed; meant = refl }
 
-pub tag_there : (d n : ℕ) (b : List ℕ) (at start place end next : ℕ) (old new : List Entry) → (s : IsTagTapedAt d b at start place old new end next) → IsTagAt d n b start (tag n s.there.value) end
-tag_there d n b at start place end next old new s = record { content = s.there.value; some = s.some; there = s.there.there; meant = refl }
+pub map_there : (d : ℕ) (count : Option ℕ) (b : List ℕ) (start place end next : ℕ) (old new : List Entry) → (s : AreMapPairsTapedAt d count b start place old new end next) → IsMapAt d count b start (pairs (pair_meanings s.written)) end
+map_there d count b start place end next old new s = record { written = s.written; stop = s.stop; some = s.some; there = s.there.there; ends = s.ends; placed = s.placed; meant = refl }
+
+pub tag_there : (d n : ℕ) (b : List ℕ) (start place end next : ℕ) (old new : List Entry) → (s : IsContentTapedAt d b start place old new end next) → IsTagAt d n b start (tag n s.there.value) end
+tag_there d n b start place end next old new s = record { content = s.there.value; some = s.some; there = s.there.there; meant = refl }
 
 -- and with them
-pub array_taped : (d : ℕ) (count : Option ℕ) (b : List ℕ) (at start place end next : ℕ) (old new : List Entry) → (s : IsArrayTapedAt d count b at start place old new end next) → IsItemAt d b at (array (meanings s.written)) end → place < length old → IsTapedAt d b at place old new end next
-array_taped d count b at start place end next old new s h in_old =
-    let t = s.there in
-    over d b at place end next (array (meanings s.written)) (values_places (meanings s.written)) t.entries old s.mid new h (λ i r. members_valid (meanings s.written) t.valid r.0 r.2) (omega (arith, t.counted)) refl t.stand t.tape in_old s.put
 
-pub map_taped : (d : ℕ) (count : Option ℕ) (b : List ℕ) (at start place end next : ℕ) (old new : List Entry) → (s : IsMapTapedAt d count b at start place old new end next) → IsItemAt d b at (pairs (pair_meanings s.written)) end → place < length old → IsTapedAt d b at place old new end next
-map_taped d count b at start place end next old new s h in_old =
+pub array_inside : (d : ℕ) (count : Option ℕ) (b : List ℕ) (at start place end next : ℕ) (old new : List Entry) → (s : AreMembersTapedAt d count b start place old new end next) → IsItemAt d b at (array (meanings s.written)) end → IsInsideTapedAt d b at place old new end next
+array_inside d count b at start place end next old new s h =
     let t = s.there in
-    over d b at place end next (pairs (pair_meanings s.written)) (pairs_places (pair_meanings s.written)) t.entries old s.mid new h (λ i r. after_valid [] (pair_meanings s.written) t.apart t.valid r.0 r.2) (omega (arith, t.counted)) refl t.stand t.tape in_old s.put
+    let xs = meanings s.written in
+    record {
+      value = array xs;
+      there = h;
+      valid = λ i r. members_valid xs t.valid r.0 r.2;
+      below = values_places xs;
+      all = refl;
+      counted = omega (arith, t.counted, values_places_counted xs);
+      entries = t.entries;
+      stand = t.stand;
+      tape = t.tape;
+    }
 
-pub tag_taped : (d n : ℕ) (b : List ℕ) (at start place end next : ℕ) (old new : List Entry) → (s : IsTagTapedAt d b at start place old new end next) → IsItemAt d b at (tag n s.there.value) end → place < length old → IsTapedAt d b at place old new end next
-tag_taped d n b at start place end next old new s h in_old =
+pub map_inside : (d : ℕ) (count : Option ℕ) (b : List ℕ) (at start place end next : ℕ) (old new : List Entry) → (s : AreMapPairsTapedAt d count b start place old new end next) → IsItemAt d b at (pairs (pair_meanings s.written)) end → IsInsideTapedAt d b at place old new end next
+map_inside d count b at start place end next old new s h =
     let t = s.there in
-    over d b at place end next (tag n t.value) (places t.value) t.entries old s.mid new h (λ i r. t.valid r.0 r.2) (omega (arith, t.counted)) refl t.stand t.tape in_old s.put
+    let ps = pair_meanings s.written in
+    record {
+      value = pairs ps;
+      there = h;
+      valid = λ i r. after_valid [] ps t.apart t.valid r.0 r.2;
+      below = pairs_places ps;
+      all = refl;
+      counted = omega (arith, t.counted, pairs_places_counted ps);
+      entries = t.entries;
+      stand = t.stand;
+      tape = t.tape;
+    }
+
+pub tag_inside : (d n : ℕ) (b : List ℕ) (at start place end next : ℕ) (old new : List Entry) → (s : IsContentTapedAt d b start place old new end next) → IsItemAt d b at (tag n s.there.value) end → IsInsideTapedAt d b at place old new end next
+tag_inside d n b at start place end next old new s h =
+    let t = s.there in
+    record {
+      value = tag n t.value;
+      there = h;
+      valid = λ i r. t.valid r.0 r.2;
+      below = places t.value;
+      all = refl;
+      counted = omega (arith, t.counted, places_counted t.value);
+      entries = t.entries;
+      stand = t.stand;
+      tape = t.tape;
+    }
 
 -- what is read moves on, and no faster on the tape than in the bytes
 pub record Moves (b : List ℕ) (at place end next : ℕ) : Type 0 where

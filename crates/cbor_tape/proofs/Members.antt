@@ -28,8 +28,8 @@ pub record AreRead (depth : ℕ) (b : List ℕ) (start place : ℕ) (old new : L
   pub counted : forms_len written ≡ read
   pub there : AreTapedAt depth b start place old new written end next
 
-pub none_read : (d : ℕ) (b : List ℕ) (start place next : ℕ) (old : List Entry) → next ≡ place → AreRead d b start place old old start next 0
-none_read d b start place next old e = record {
+pub none_read : (d : ℕ) (b : List ℕ) (start place : ℕ) (old : List Entry) → AreRead d b start place old old start place 0
+none_read d b start place old = record {
   written = no_forms;
   counted = refl;
   there = record {
@@ -38,7 +38,7 @@ none_read d b start place next old e = record {
     counted = omega arith;
     entries = [];
     stand = tt;
-    tape = ap (λ n. take n old) e ∙ sym (append-nil (take place old));
+    tape = sym (append-nil (take place old));
   };
 }
 

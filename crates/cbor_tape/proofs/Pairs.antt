@@ -48,8 +48,8 @@ pub record ArePairsRead (depth : ℕ) (b : List ℕ) (start place : ℕ) (old ne
   pub there : ArePairsTapedAt depth b start place old new written end next
   pub high : IsHighest b highest (key_marks (pair_meanings written))
 
-pub no_pairs_read : (d : ℕ) (b : List ℕ) (start place next : ℕ) (old : List Entry) → next ≡ place → ArePairsRead d b start place old old start next 0 None
-no_pairs_read d b start place next old e = record {
+pub no_pairs_read : (d : ℕ) (b : List ℕ) (start place : ℕ) (old : List Entry) → ArePairsRead d b start place old old start place 0 None
+no_pairs_read d b start place old = record {
   written = no_pair_forms;
   counted = refl;
   there = record {
@@ -59,7 +59,7 @@ no_pairs_read d b start place next old e = record {
     counted = omega arith;
     entries = [];
     stand = tt;
-    tape = ap (λ n. take n old) e ∙ sym (append-nil (take place old));
+    tape = sym (append-nil (take place old));
   };
   high = refl;
 }

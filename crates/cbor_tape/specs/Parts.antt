@@ -1,5 +1,5 @@
 -- What is read where in bytes, and what of the tape is written.
-use Rattle.std.specs.Prelude.{◌≡◌, ℕ, suc, ◌+◌, ◌-◌, ◌<◌, List, [], ◌++◌, take, Option, false, slice_set}
+use Rattle.std.specs.Prelude.{◌≡◌, ℕ, ◌+◌, ◌-◌, ◌<◌, List, [], ◌∷◌, ◌++◌, length, take, Option, false}
 use Rattle.cbor_data.specs.Value.{Value, place_count, values_place_count, pairs_place_count, places, values_places, pairs_places}
 use Rattle.cbor_data.specs.Validity.{IsValid}
 use Rattle.cbor_data.specs.Forms.{Forms, PairForms, forms_len, pair_forms_len, meanings, pair_meanings}
@@ -49,35 +49,38 @@ pub record ArePairsTapedAt (depth : ℕ) (b : List ℕ) (start place : ℕ) (old
   pub stand : AreEntriesOf b place (pairs_places (pair_meanings ps)) entries
   pub tape : take next new ≡ take place old ++ entries
 
-abbrev pub entry : (head next : ℕ) → Entry
-entry head next = record { head = head; next = next }
-
--- The members of an array, so many or those up to a break, are in b from `start` on. The array's first byte is at `at`, and its
--- entry, at this place, is written after theirs.
-pub record IsArrayTapedAt (depth : ℕ) (count : Option ℕ) (b : List ℕ) (at start place : ℕ) (old new : List Entry) (end next : ℕ) : Type 0 where
+-- the members of an array, so many or those up to a break, which are in b from `start` on
+pub record AreMembersTapedAt (depth : ℕ) (count : Option ℕ) (b : List ℕ) (start place : ℕ) (old new : List Entry) (end next : ℕ) : Type 0 where
   pub written : Forms
   pub stop : ℕ
-  pub mid : List Entry
   pub some : 0 < depth
-  pub there : AreTapedAt (depth - 1) b start (suc place) old mid written stop next
+  pub there : AreTapedAt (depth - 1) b start place old new written stop next
   pub ends : IsEnd count (forms_len written) b stop
   pub placed : end ≡ stop + end_length count
-  pub put : new ≡ slice_set mid place (entry at next)
 
--- the same of a map and its pairs
-pub record IsMapTapedAt (depth : ℕ) (count : Option ℕ) (b : List ℕ) (at start place : ℕ) (old new : List Entry) (end next : ℕ) : Type 0 where
+-- the same of the pairs of a map
+pub record AreMapPairsTapedAt (depth : ℕ) (count : Option ℕ) (b : List ℕ) (start place : ℕ) (old new : List Entry) (end next : ℕ) : Type 0 where
   pub written : PairForms
   pub stop : ℕ
-  pub mid : List Entry
   pub some : 0 < depth
-  pub there : ArePairsTapedAt (depth - 1) b start (suc place) old mid written stop next
+  pub there : ArePairsTapedAt (depth - 1) b start place old new written stop next
   pub ends : IsEnd count (pair_forms_len written) b stop
   pub placed : end ≡ stop + end_length count
-  pub put : new ≡ slice_set mid place (entry at next)
 
--- the same of a tag and its content
-pub record IsTagTapedAt (depth : ℕ) (b : List ℕ) (at start place : ℕ) (old new : List Entry) (end next : ℕ) : Type 0 where
-  pub mid : List Entry
+-- the content of a tag
+pub record IsContentTapedAt (depth : ℕ) (b : List ℕ) (start place : ℕ) (old new : List Entry) (end next : ℕ) : Type 0 where
   pub some : 0 < depth
-  pub there : IsTapedAt (depth - 1) b start (suc place) old mid end next
-  pub put : new ≡ slice_set mid place (entry at next)
+  pub there : IsTapedAt (depth - 1) b start place old new end next
+
+-- a valid item no deeper than this is in b from `at` up to `end`, and from this place on the tape has the entries of what is
+-- below it
+pub record IsInsideTapedAt (depth : ℕ) (b : List ℕ) (at place : ℕ) (old new : List Entry) (end next : ℕ) : Type 0 where
+  pub value : Value
+  pub there : IsItemAt depth b at value end
+  pub valid : IsValid value
+  pub below : List Value
+  pub all : places value ≡ value ∷ below
+  pub counted : next ≡ place + length below
+  pub entries : List Entry
+  pub stand : AreEntriesOf b place below entries
+  pub tape : take next new ≡ take place old ++ entries

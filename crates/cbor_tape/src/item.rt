@@ -1,6 +1,6 @@
 //! Items of every kind, each with its tape.
-ghost use Rattle.std.specs.Prelude.{◌≡◌, ◌+◌, ◌^◌, ◌<◌, ◌≤◌, length, slice_set, IfSome};
-ghost use Rattle.cbor_tape.specs.Parts.{entry, IsArrayTapedAt, IsMapTapedAt, IsTagTapedAt, IsTapedAt};
+ghost use Rattle.std.specs.Prelude.{◌+◌, ◌^◌, ◌<◌, ◌≤◌, length, IfSome};
+ghost use Rattle.cbor_tape.specs.Parts.{AreMapPairsTapedAt, AreMembersTapedAt, IsContentTapedAt, IsInsideTapedAt, IsTapedAt};
 ghost use Rattle.cbor_tape.specs.Tape.{IsWholeTape};
 
 use crate::entry::Entry;
@@ -44,7 +44,7 @@ pub fn whole_tape(bytes: &[u8], depth: u32, tape: &mut [Entry]) -> Option<usize>
     Some(extent.end)
 }
 
-// The item at `at`, whose place is `place`.
+// The item at `at`, whose place is `place`. Its entry is put behind those of what is below it, when the next place is known.
 #[cycle(taped)]
 #[inline(always)]
 fn item_at(bytes: &[u8], at: usize, depth: u32, tape: &mut [Entry], place: usize) -> Option<Extent>
@@ -56,24 +56,42 @@ fn item_at(bytes: &[u8], at: usize, depth: u32, tape: &mut [Entry], place: usize
     if at >= bytes.len() {
         return None;
     }
+    let extent = inside(bytes, at, depth, tape, place + 1)?;
+    tape[place] = Entry {
+        head: at as u32,
+        next: extent.next as u32,
+    };
+    Some(extent)
+}
+
+// The item at `at`, with the entries of what is below it from `place` on.
+#[cycle(taped)]
+#[inline(always)]
+fn inside(bytes: &[u8], at: usize, depth: u32, tape: &mut [Entry], place: usize) -> Option<Extent>
+    requires room { length bytes.now ≤ length tape.old }
+    requires short { length bytes.now < 2 ^ 32 }
+    requires within { at < length bytes.now }
+    requires place { place ≤ at + 1 }
+    ensures { IfSome result (λ r. IsInsideTapedAt depth bytes.now at place tape.old tape.new r.end r.next) }
+{
     let (argument, start) = argument_at(bytes, at);
     if start == 0 {
-        return item_to_break(bytes, at, depth, tape, place);
+        return inside_to_break(bytes, at, depth, tape, place);
     }
     match bytes[at] / 32 {
-        4 => array(bytes, at, start, depth, Some(argument), tape, place),
-        5 => map(bytes, at, start, depth, Some(argument), tape, place),
-        6 => tag(bytes, at, start, depth, tape, place),
+        4 => members(bytes, start, depth, Some(argument), tape, place),
+        5 => pairs(bytes, start, depth, Some(argument), tape, place),
+        6 => content(bytes, start, depth, tape, place),
         _ => {
             let end = leaf_end(bytes, at, argument, start)?;
-            Some(put_leaf(tape, place, at, end))
+            Some(Extent { end, next: place })
         }
     }
 }
 
-// The item at `at` whose parts go up to a break.
+// The same of an item whose parts go up to a break.
 #[cycle(taped)]
-fn item_to_break(
+fn inside_to_break(
     bytes: &[u8],
     at: usize,
     depth: u32,
@@ -83,53 +101,23 @@ fn item_to_break(
     requires room { length bytes.now ≤ length tape.old }
     requires short { length bytes.now < 2 ^ 32 }
     requires within { at < length bytes.now }
-    requires place { place ≤ at }
-    ensures { IfSome result (λ r. IsTapedAt depth bytes.now at place tape.old tape.new r.end r.next) }
+    requires place { place ≤ at + 1 }
+    ensures { IfSome result (λ r. IsInsideTapedAt depth bytes.now at place tape.old tape.new r.end r.next) }
 {
     match bytes[at] {
-        ARRAY_TO_BREAK => array(bytes, at, at + 1, depth, None, tape, place),
-        MAP_TO_BREAK => map(bytes, at, at + 1, depth, None, tape, place),
+        ARRAY_TO_BREAK => members(bytes, at + 1, depth, None, tape, place),
+        MAP_TO_BREAK => pairs(bytes, at + 1, depth, None, tape, place),
         _ => {
             let end = string_to_break_end(bytes, at)?;
-            Some(put_leaf(tape, place, at, end))
+            Some(Extent { end, next: place })
         }
     }
 }
 
-// Puts the entry of an item that has no parts.
-#[inline(always)]
-fn put_leaf(tape: &mut [Entry], place: usize, at: usize, end: usize) -> Extent
-    requires room { place < length tape.old }
-    requires head { at < 2 ^ 32 }
-    requires next { place + 1 < 2 ^ 32 }
-    ensures end { result.end ≡ end }
-    ensures next { result.next ≡ place + 1 }
-    ensures put { tape.new ≡ slice_set tape.old place (entry at (place + 1)) }
-{
-    let next = place + 1;
-    put(tape, place, at, next);
-    Extent { end, next }
-}
-
-// Puts the entry of the item at `at`: `next` is the place after it and all that is below it.
-#[inline(always)]
-fn put(tape: &mut [Entry], place: usize, at: usize, next: usize)
-    requires room { place < length tape.old }
-    requires head { at < 2 ^ 32 }
-    requires next { next < 2 ^ 32 }
-    ensures { tape.new ≡ slice_set tape.old place (entry at next) }
-{
-    tape[place] = Entry {
-        head: at as u32,
-        next: next as u32,
-    };
-}
-
-// The array at `at` of so many members from `start` on, or of those up to a break.
+// The members of an array, so many from `start` on, or those up to a break.
 #[cycle(taped)]
-fn array(
+fn members(
     bytes: &[u8],
-    at: usize,
     start: usize,
     depth: u32,
     count: Option<u64>,
@@ -139,15 +127,14 @@ fn array(
     requires room { length bytes.now ≤ length tape.old }
     requires short { length bytes.now < 2 ^ 32 }
     requires within { start ≤ length bytes.now }
-    requires head { at < start }
-    requires place { place ≤ at }
-    ensures { IfSome result (λ r. IsArrayTapedAt depth count bytes.now at start place tape.old tape.new r.end r.next) }
+    requires place { place ≤ start }
+    ensures { IfSome result (λ r. AreMembersTapedAt depth count bytes.now start place tape.old tape.new r.end r.next) }
 {
     if depth == 0 {
         return None;
     }
     let mut end = start;
-    let mut next = place + 1;
+    let mut next = place;
     let mut read = 0;
     while !is_end(bytes, end, count, read) {
         let member = item_at(bytes, end, depth - 1, tape, next)?;
@@ -155,18 +142,16 @@ fn array(
         next = member.next;
         read += 1;
     }
-    put(tape, place, at, next);
     Some(Extent {
         end: end + end_len(count),
         next,
     })
 }
 
-// The map at `at` of so many pairs from `start` on, or of those up to a break.
+// The pairs of a map, so many from `start` on, or those up to a break.
 #[cycle(taped)]
-fn map(
+fn pairs(
     bytes: &[u8],
-    at: usize,
     start: usize,
     depth: u32,
     count: Option<u64>,
@@ -176,19 +161,18 @@ fn map(
     requires room { length bytes.now ≤ length tape.old }
     requires short { length bytes.now < 2 ^ 32 }
     requires within { start ≤ length bytes.now }
-    requires head { at < start }
-    requires place { place ≤ at }
-    ensures { IfSome result (λ r. IsMapTapedAt depth count bytes.now at start place tape.old tape.new r.end r.next) }
+    requires place { place ≤ start }
+    ensures { IfSome result (λ r. AreMapPairsTapedAt depth count bytes.now start place tape.old tape.new r.end r.next) }
 {
     if depth == 0 {
         return None;
     }
     let mut end = start;
-    let mut next = place + 1;
+    let mut next = place;
     let mut read = 0;
     let mut highest = None;
     while !is_end(bytes, end, count, read) {
-        let above = highest_with(bytes, tape, place + 1, next, highest, end)?;
+        let above = highest_with(bytes, tape, place, next, highest, end)?;
         let key = item_at(bytes, end, depth - 1, tape, next)?;
         let value = item_at(bytes, key.end, depth - 1, tape, key.next)?;
         highest = Some(above);
@@ -196,18 +180,16 @@ fn map(
         next = value.next;
         read += 1;
     }
-    put(tape, place, at, next);
     Some(Extent {
         end: end + end_len(count),
         next,
     })
 }
 
-// The tag at `at` whose content is at `start`.
+// The content of a tag.
 #[cycle(taped)]
-fn tag(
+fn content(
     bytes: &[u8],
-    at: usize,
     start: usize,
     depth: u32,
     tape: &mut [Entry],
@@ -215,14 +197,11 @@ fn tag(
 ) -> Option<Extent>
     requires room { length bytes.now ≤ length tape.old }
     requires short { length bytes.now < 2 ^ 32 }
-    requires head { at < start }
-    requires place { place ≤ at }
-    ensures { IfSome result (λ r. IsTagTapedAt depth bytes.now at start place tape.old tape.new r.end r.next) }
+    requires place { place ≤ start }
+    ensures { IfSome result (λ r. IsContentTapedAt depth bytes.now start place tape.old tape.new r.end r.next) }
 {
     if depth == 0 {
         return None;
     }
-    let content = item_at(bytes, start, depth - 1, tape, place + 1)?;
-    put(tape, place, at, content.next);
-    Some(content)
+    item_at(bytes, start, depth - 1, tape, place)
 }

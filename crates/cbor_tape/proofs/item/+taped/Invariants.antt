@@ -1,4 +1,4 @@
-use Rattle.std.proofs.Common.{suc, ◌+◌, ◌-◌, ◌*◌, ◌<◌, ◌≤◌, length}
+use Rattle.std.proofs.Common.{◌+◌, ◌-◌, ◌*◌, ◌≤◌, length}
 use Rattle.cbor_tape.proofs.Members.{AreRead}
 use Rattle.cbor_tape.proofs.Pairs.{ArePairsRead}
 use Rattle.cbor_tape.proofs.item.+taped.Given as goal
@@ -6,42 +6,43 @@ use Rattle.cbor_tape.proofs.item.+taped.Given as goal
 -- how many bytes are left, before each call of what is inside
 
 abbrev pub decreases-item_at : goal.decreases-item_at
-decreases-item_at l = 3 * (length l.bytes.now - l.at) + 2
+decreases-item_at l = 4 * (length l.bytes.now - l.at) + 3
 
-abbrev pub decreases-item_to_break : goal.decreases-item_to_break
-decreases-item_to_break l = 3 * (length l.bytes.now - l.at) + 1
+abbrev pub decreases-inside : goal.decreases-inside
+decreases-inside l = 4 * (length l.bytes.now - l.at) + 2
 
-abbrev pub decreases-array : goal.decreases-array
-decreases-array l = 3 * (length l.bytes.now - l.start) + 3
+abbrev pub decreases-inside_to_break : goal.decreases-inside_to_break
+decreases-inside_to_break l = 4 * (length l.bytes.now - l.at) + 1
 
-abbrev pub decreases-map : goal.decreases-map
-decreases-map l = 3 * (length l.bytes.now - l.start) + 3
+abbrev pub decreases-members : goal.decreases-members
+decreases-members l = 4 * (length l.bytes.now - l.start) + 4
 
-abbrev pub decreases-tag : goal.decreases-tag
-decreases-tag l = 3 * (length l.bytes.now - l.start) + 3
+abbrev pub decreases-pairs : goal.decreases-pairs
+decreases-pairs l = 4 * (length l.bytes.now - l.start) + 4
 
-abbrev pub invariant-array-loop-tape : goal.invariant-array-loop-tape
-invariant-array-loop-tape l = record {
-  taped : AreRead (l.depth - 1) l.bytes l.start (suc l.place) l.fn.tape l.tape l.end l.next l.read;
+abbrev pub decreases-content : goal.decreases-content
+decreases-content l = 4 * (length l.bytes.now - l.start) + 4
+
+abbrev pub invariant-members-loop-tape : goal.invariant-members-loop-tape
+invariant-members-loop-tape l = record {
+  taped : AreRead (l.depth - 1) l.bytes l.start l.place l.fn.tape l.tape l.end l.next l.read;
   behind : l.start ≤ l.end;
-  further : l.place < l.next;
   slower : l.next ≤ l.end;
   few : l.read ≤ l.end;
   within : l.end ≤ length l.bytes;
 }
 
-abbrev pub decreases-array-loop-tape : goal.decreases-array-loop-tape
-decreases-array-loop-tape l = length l.bytes - l.end
+abbrev pub decreases-members-loop-tape : goal.decreases-members-loop-tape
+decreases-members-loop-tape l = length l.bytes - l.end
 
-abbrev pub invariant-map-loop-highest : goal.invariant-map-loop-highest
-invariant-map-loop-highest l = record {
-  taped : ArePairsRead (l.depth - 1) l.bytes l.start (suc l.place) l.fn.tape l.tape l.end l.next l.read l.highest;
+abbrev pub invariant-pairs-loop-highest : goal.invariant-pairs-loop-highest
+invariant-pairs-loop-highest l = record {
+  taped : ArePairsRead (l.depth - 1) l.bytes l.start l.place l.fn.tape l.tape l.end l.next l.read l.highest;
   behind : l.start ≤ l.end;
-  further : l.place < l.next;
   slower : l.next ≤ l.end;
   few : l.read ≤ l.end;
   within : l.end ≤ length l.bytes;
 }
 
-abbrev pub decreases-map-loop-highest : goal.decreases-map-loop-highest
-decreases-map-loop-highest l = length l.bytes - l.end
+abbrev pub decreases-pairs-loop-highest : goal.decreases-pairs-loop-highest
+decreases-pairs-loop-highest l = length l.bytes - l.end
