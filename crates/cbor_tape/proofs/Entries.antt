@@ -66,33 +66,41 @@ put_before old mid p next e below in_old before is =
     let front : take next mid ≡ take p old ++ d ∷ below = is ∙ (ap (λ es. es ++ below) one ∙ append_assoc (take p old) (d ∷ []) below) in
     take-set-lt next mid p e before ∙ (ap (λ es. set es p e) front ∙ set_at (take p old) d below e p (length-take-le p old (omega arith)))
 
--- an item has more places than are below it by one, and no more places than bytes
-pub record Extends (b : List ℕ) (at place end next : ℕ) : Type 0 where
-  pub within : end ≤ length b
-  pub on : at < end
-  pub slower : next + at < place + end
+-- an item that is in b has its bytes there, one at least, and no more places than bytes
+record Spans (b : List ℕ) (at end : ℕ) (x : Value) : Type 0 where
+  within : end ≤ length b
+  on : at < end
+  few : at + place_count x ≤ end
 
-pub extends : (d : ℕ) (b : List ℕ) (at place end next : ℕ) (old new : List Entry) → IsInsideTapedAt d b at place old new end next → Extends b at place end next
-extends d b at place end next old new t =
-    let f = t.there.written in
-    let spelled : Spells t.value (flat f) = record { written = f; ok = t.there.ok; text = t.there.text; is = refl; meant = t.there.meant } in
-    let few : place_count t.value ≤ length (flat f) = spelled_places t.value (flat f) spelled in
-    let counted : suc (length t.below) ≡ place_count t.value = sym (ap length t.all) ∙ places_counted t.value in
+item_spans : (d : ℕ) (b : List ℕ) (at end : ℕ) (x : Value) → IsItemAt d b at x end → Spans b at end x
+item_spans d b at end x h =
+    let f = h.written in
+    let spelled : Spells x (flat f) = record { written = f; ok = h.ok; text = h.text; is = refl; meant = h.meant } in
+    let few : place_count x ≤ length (flat f) = spelled_places x (flat f) spelled in
     let some : 0 < length (flat f) = form_some f in
-    let len : length (drop at b) ≡ length (flat f) + length (drop end b) = ap length t.there.is ∙ length-append (flat f) (drop end b) in
+    let len : length (drop at b) ≡ length (flat f) + length (drop end b) = ap length h.is ∙ length-append (flat f) (drop end b) in
     record {
-      within = omega (arith, len, t.there.placed, length-drop at b, length-drop end b);
-      on = omega (arith, t.there.placed);
-      slower = omega (arith, t.counted, t.there.placed);
+      within = omega (arith, len, h.placed, length-drop at b, length-drop end b);
+      on = omega (arith, h.placed);
+      few = omega (arith, h.placed);
     }
+
+-- an item has one place more than there are below it
+below_counted : (x : Value) (below : List Value) → places x ≡ x ∷ below → suc (length below) ≡ place_count x
+below_counted x below all = sym (ap length all) ∙ places_counted x
+
+-- what is read of the inside goes no further on the tape than in the bytes
+pub inside_within : (d : ℕ) (b : List ℕ) (at place end next : ℕ) (old new : List Entry) → place ≤ at + 1 → IsInsideTapedAt d b at place old new end next → next ≤ length b
+inside_within d b at place end next old new few t =
+    let s = item_spans d b at end t.value t.there in
+    omega (arith, t.counted, below_counted t.value t.below t.all, s.few, s.within)
 
 -- the item with its entry
 pub over : (d : ℕ) (b : List ℕ) (at place end next : ℕ) (old mid : List Entry) → place < length old → IsInsideTapedAt d b at (place + 1) old mid end next → IsTapedAt d b at place old (set mid place (record { head = at; next = next })) end next
 over d b at place end next old mid in_old t =
     let e : Entry = record { head = at; next = next } in
     let f = t.there.written in
-    let counted : suc (length t.below) ≡ place_count t.value = sym (ap length t.all) ∙ places_counted t.value in
-    let count : next ≡ place + place_count t.value = omega (arith, t.counted) in
+    let count : next ≡ place + place_count t.value = omega (arith, t.counted, below_counted t.value t.below t.all) in
     let same : place + 1 ≡ suc place = omega arith in
     let here : IsEntryOf b place t.value e = record {
       spelling = flat f;
@@ -108,7 +116,7 @@ over d b at place end next old mid in_old t =
       counted = count;
       entries = e ∷ t.entries;
       stand = subst (λ xs. AreEntriesOf b place xs (e ∷ t.entries)) (sym t.all) (here, subst (λ n. AreEntriesOf b n t.below t.entries) same t.stand);
-      tape = put_before old mid place next e t.entries in_old (omega arith) (t.tape ∙ ap (λ n. take n old ++ t.entries) same);
+      tape = put_before old mid place next e t.entries in_old (omega (arith, t.counted)) (t.tape ∙ ap (λ n. take n old ++ t.entries) same);
     }
 
 -- what holds of an item that has no parts
@@ -223,22 +231,15 @@ tag_inside d n b at start place end next old new s h =
 pub record Moves (b : List ℕ) (at place end next : ℕ) : Type 0 where
   pub within : end ≤ length b
   pub on : at < end
-  pub further : place < next
   pub slower : next + at ≤ place + end
 
 pub taped_moves : (d : ℕ) (b : List ℕ) (at place end next : ℕ) (old new : List Entry) → IsTapedAt d b at place old new end next → Moves b at place end next
 taped_moves d b at place end next old new t =
-    let f = t.there.written in
-    let spelled : Spells t.value (flat f) = record { written = f; ok = t.there.ok; text = t.there.text; is = refl; meant = t.there.meant } in
-    let few : place_count t.value ≤ length (flat f) = spelled_places t.value (flat f) spelled in
-    let some : 0 < length (flat f) = form_some f in
-    let one : 0 < place_count t.value = some_place t.value in
-    let len : length (drop at b) ≡ length (flat f) + length (drop end b) = ap length t.there.is ∙ length-append (flat f) (drop end b) in
+    let s = item_spans d b at end t.value t.there in
     record {
-      within = omega (arith, len, t.there.placed, length-drop at b, length-drop end b);
-      on = omega (arith, t.there.placed);
-      further = omega (arith, t.counted);
-      slower = omega (arith, t.counted, t.there.placed);
+      within = s.within;
+      on = s.on;
+      slower = omega (arith, t.counted, s.few);
     }
 
 -- the front of bytes

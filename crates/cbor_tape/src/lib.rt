@@ -9,3 +9,6 @@ mod leaf;
 
 pub use crate::entry::Entry;
 pub use crate::item::whole_tape;
+
+#[cfg(test)]
+mod tests;

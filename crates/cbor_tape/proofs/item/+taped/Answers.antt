@@ -4,7 +4,7 @@ use Rattle.cbor_data.specs.Value.{array, pairs, tag}
 use Rattle.cbor_data.specs.Forms.{meanings, pair_meanings}
 use Rattle.read_items.proofs.OfWhole.Lemmas.{array_item, map_item, tag_item, broken_array, broken_map}
 use Rattle.cbor_tape.specs.Parts.{AreMapPairsTapedAt, AreMembersTapedAt, IsContentTapedAt, IsTapedAt}
-use Rattle.cbor_tape.proofs.Entries.{array_there, map_there, tag_there, array_inside, map_inside, tag_inside, leaf_inside, over, extends, taped_moves}
+use Rattle.cbor_tape.proofs.Entries.{array_there, map_there, tag_there, array_inside, map_inside, tag_inside, leaf_inside, over, inside_within, taped_moves}
 use Rattle.cbor_tape.proofs.Members.{none_read, one_more}
 use Rattle.cbor_tape.proofs.Pairs.{no_pairs_read, one_pair_more}
 use Rattle.cbor_tape.proofs.item.+taped.Goals as goal
@@ -14,8 +14,7 @@ use Rattle.cbor_tape.proofs.item.+taped.Goals as goal
 pub item_at-overflow_cast-tape-2 : goal.item_at-overflow_cast-tape-2
 item_at-overflow_cast-tape-2 t c =
     let r = c.in_ok-extent.extent in
-    let e = extends c.args.depth c.args.bytes.now c.args.at (c.args.place + 1) r.end r.next c.args.tape.now c.inside.new.tape c.in_ok-extent.ensures in
-    omega (arith, e.slower, e.within)
+    omega (arith, inside_within c.args.depth c.args.bytes.now c.args.at (c.args.place + 1) r.end r.next c.args.tape.now c.inside.new.tape (omega arith) c.in_ok-extent.ensures)
 
 pub item_at-returns : goal.item_at-returns
 item_at-returns t c = over c.args.depth c.args.bytes.now c.args.at c.args.place c.in_ok-extent.extent.end c.in_ok-extent.extent.next c.args.tape.now c.inside.new.tape (omega arith) c.in_ok-extent.ensures
