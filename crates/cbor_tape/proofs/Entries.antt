@@ -96,8 +96,8 @@ inside_within d b at place end next old new few t =
     omega (arith, t.counted, below_counted t.value t.below t.all, s.few, s.within)
 
 -- the item with its entry
-pub over : (d : ℕ) (b : List ℕ) (at place end next : ℕ) (old mid : List Entry) → place < length old → IsInsideTapedAt d b at (place + 1) old mid end next → IsTapedAt d b at place old (set mid place (record { head = at; next = next })) end next
-over d b at place end next old mid in_old t =
+pub over : (d : ℕ) (b : List ℕ) (at place end next : ℕ) (old mid new : List Entry) → place < length old → IsInsideTapedAt d b at (place + 1) old mid end next → new ≡ set mid place (record { head = at; next = next }) → IsTapedAt d b at place old new end next
+over d b at place end next old mid new in_old t put =
     let e : Entry = record { head = at; next = next } in
     let f = t.there.written in
     let count : next ≡ place + place_count t.value = omega (arith, t.counted, below_counted t.value t.below t.all) in
@@ -116,7 +116,7 @@ over d b at place end next old mid in_old t =
       counted = count;
       entries = e ∷ t.entries;
       stand = subst (λ xs. AreEntriesOf b place xs (e ∷ t.entries)) (sym t.all) (here, subst (λ n. AreEntriesOf b n t.below t.entries) same t.stand);
-      tape = put_before old mid place next e t.entries in_old (omega (arith, t.counted)) (t.tape ∙ ap (λ n. take n old ++ t.entries) same);
+      tape = ap (take next) put ∙ put_before old mid place next e t.entries in_old (omega (arith, t.counted)) (t.tape ∙ ap (λ n. take n old ++ t.entries) same);
     }
 
 -- what holds of an item that has no parts

@@ -1,5 +1,5 @@
 //! Items of every kind, each with its tape.
-ghost use Rattle.std.specs.Prelude.{◌+◌, ◌^◌, ◌<◌, ◌≤◌, length, IfSome};
+ghost use Rattle.std.specs.Prelude.{◌≡◌, ◌+◌, ◌^◌, ◌<◌, ◌≤◌, length, slice_set, IfSome};
 ghost use Rattle.cbor_tape.specs.Parts.{AreMapPairsTapedAt, AreMembersTapedAt, IsContentTapedAt, IsInsideTapedAt, IsTapedAt};
 ghost use Rattle.cbor_tape.specs.Tape.{IsWholeTape};
 
@@ -57,11 +57,22 @@ fn item_at(bytes: &[u8], at: usize, depth: u32, tape: &mut [Entry], place: usize
         return None;
     }
     let extent = inside(bytes, at, depth, tape, place + 1)?;
+    put(tape, place, at, extent.next);
+    Some(extent)
+}
+
+// Puts the entry of the item at `at`: `next` is the place after it and all that is below it.
+#[inline(always)]
+fn put(tape: &mut [Entry], place: usize, at: usize, next: usize)
+    requires room { place < length tape.old }
+    requires head { at < 2 ^ 32 }
+    requires next { next < 2 ^ 32 }
+    ensures { tape.new ≡ slice_set tape.old place (record { head = at; next = next }) }
+{
     tape[place] = Entry {
         head: at as u32,
-        next: extent.next as u32,
+        next: next as u32,
     };
-    Some(extent)
 }
 
 // The item at `at`, with the entries of what is below it from `place` on.

@@ -11,13 +11,13 @@ use Rattle.cbor_tape.proofs.item.+taped.Goals as goal
 
 -- items
 
-pub item_at-overflow_cast-tape-2 : goal.item_at-overflow_cast-tape-2
-item_at-overflow_cast-tape-2 t c =
+pub item_at-put-requires-clause-next : goal.item_at-put-requires-clause-next
+item_at-put-requires-clause-next t c =
     let r = c.in_ok-extent.extent in
     omega (arith, inside_within c.args.depth c.args.bytes.now c.args.at (c.args.place + 1) r.end r.next c.args.tape.now c.inside.new.tape (omega arith) c.in_ok-extent.ensures)
 
 pub item_at-returns : goal.item_at-returns
-item_at-returns t c = over c.args.depth c.args.bytes.now c.args.at c.args.place c.in_ok-extent.extent.end c.in_ok-extent.extent.next c.args.tape.now c.inside.new.tape (omega arith) c.in_ok-extent.ensures
+item_at-returns t c = over c.args.depth c.args.bytes.now c.args.at c.args.place c.in_ok-extent.extent.end c.in_ok-extent.extent.next c.args.tape.now c.inside.new.tape c.put.new.tape (omega arith) c.in_ok-extent.ensures c.put.ensures
 
 pub inside-returns-in-4 : goal.inside-returns-in-4
 inside-returns-in-4 t c =
