@@ -2,7 +2,7 @@
 use Rattle.std.proofs.Common.{◌≡◌, ℕ, suc, ◌+◌, ◌<◌, ◌≤◌, false, List, [], ◌∷◌, ◌++◌, length, take, drop, get_or, refl, sym, ap, ◌∙◌, subst, inl, inr, arith, append_assoc, append-nil, length-append, length-drop, Option}
 use Rattle.std.proofs.Math.ListN.{set}
 use Rattle.std.proofs.Math.Seq.{take-set-lt}
-use Rattle.std.proofs.lemmas.List.{take_more, set_at, length-take-le}
+use Rattle.std.proofs.lemmas.List.{take_more, set_at, length-take-le, get_or-set_same}
 use Rattle.cbor_data.specs.Value.{Value, uint, nint, bytes, text, array, pairs, tag, simple, float, Values, no_values, value, Pairs, no_pairs, pair, place_count, values_place_count, pairs_place_count, places, values_places, pairs_places}
 use Rattle.cbor_data.specs.Validity.{IsValid, IsRepeatedKeyAmong, IsRepeatedKeyAfter}
 use Rattle.cbor_data.specs.Forms.{flat, meanings, pair_meanings, Spells}
@@ -12,7 +12,7 @@ use Rattle.read_items.specs.Whole.Parts.{IsItemAt, IsArrayAt, IsMapAt, IsTagAt}
 use Rattle.read_items.proofs.OfWhole.Lemmas.{whole_front, deeper_front}
 use Rattle.cbor_tape.specs.declared.entry.Entry.{Entry}
 use Rattle.cbor_tape.specs.Tape.{IsEntryOf, AreEntriesOf, IsWholeTape}
-use Rattle.cbor_tape.specs.Parts.{IsLeafAt, IsTapedAt, IsInsideTapedAt, AreMembersTapedAt, AreMapPairsTapedAt, IsContentTapedAt}
+use Rattle.cbor_tape.specs.Parts.{IsLeafAt, IsTapedAt, IsInsideTapedAt, AreMembersTapedAt, AreMapPairsTapedAt, IsContentTapedAt, next_at}
 
 -- an item has as many places as are counted
 mutual
@@ -96,12 +96,13 @@ inside_within d b at place end next old new few t =
     omega (arith, t.counted, below_counted t.value t.below t.all, s.few, s.within)
 
 -- the item with its entry
-pub over : (d : ℕ) (b : List ℕ) (at place end next : ℕ) (old mid new : List Entry) → place < length old → IsInsideTapedAt d b at (place + 1) old mid end next → new ≡ set mid place (record { head = at; next = next }) → IsTapedAt d b at place old new end next
-over d b at place end next old mid new in_old t put =
+pub over : (d : ℕ) (b : List ℕ) (at place end next : ℕ) (old mid new : List Entry) → place < length old → length old ≡ length mid → IsInsideTapedAt d b at (place + 1) old mid end next → new ≡ set mid place (record { head = at; next = next }) → IsTapedAt d b at place old new end (next_at new place)
+over d b at place end next old mid new in_old same_len t put =
     let e : Entry = record { head = at; next = next } in
     let f = t.there.written in
     let count : next ≡ place + place_count t.value = omega (arith, t.counted, below_counted t.value t.below t.all) in
     let same : place + 1 ≡ suc place = omega arith in
+    let read : next ≡ next_at new place = ap (λ r. r.next) (sym (get_or-set_same mid place e (record { head = 0; next = 0 }) (omega arith)) ∙ ap (λ es. get_or es place (record { head = 0; next = 0 })) (sym put)) in
     let here : IsEntryOf b place t.value e = record {
       spelling = flat f;
       after = drop end b;
@@ -109,7 +110,7 @@ over d b at place end next old mid new in_old t put =
       is = t.there.is;
       next = count;
     } in
-    record {
+    subst (IsTapedAt d b at place old new end) read (record {
       value = t.value;
       there = t.there;
       valid = t.valid;
@@ -117,7 +118,7 @@ over d b at place end next old mid new in_old t put =
       entries = e ∷ t.entries;
       stand = subst (λ xs. AreEntriesOf b place xs (e ∷ t.entries)) (sym t.all) (here, subst (λ n. AreEntriesOf b n t.below t.entries) same t.stand);
       tape = ap (take next) put ∙ put_before old mid place next e t.entries in_old (omega (arith, t.counted)) (t.tape ∙ ap (λ n. take n old ++ t.entries) same);
-    }
+    })
 
 -- what holds of an item that has no parts
 record IsAlone (x : Value) : Type 0 where

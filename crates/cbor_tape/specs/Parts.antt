@@ -1,5 +1,5 @@
 -- What is read where in bytes, and what of the tape is written.
-use Rattle.std.specs.Prelude.{◌≡◌, ℕ, ◌+◌, ◌-◌, ◌<◌, List, [], ◌∷◌, ◌++◌, length, take, Option, false}
+use Rattle.std.specs.Prelude.{◌≡◌, ℕ, ◌+◌, ◌-◌, ◌<◌, List, [], ◌∷◌, ◌++◌, length, take, Option, false, slice_index_or}
 use Rattle.cbor_data.specs.Value.{Value, place_count, values_place_count, pairs_place_count, places, values_places, pairs_places}
 use Rattle.cbor_data.specs.Validity.{IsValid}
 use Rattle.cbor_data.specs.Forms.{Forms, PairForms, forms_len, pair_forms_len, meanings, pair_meanings}
@@ -29,6 +29,10 @@ pub record IsTapedAt (depth : ℕ) (b : List ℕ) (at place : ℕ) (old new : Li
   pub entries : List Entry
   pub stand : AreEntriesOf b place (places value) entries
   pub tape : take next new ≡ take place old ++ entries
+
+-- the next place that the entry of this place has
+abbrev pub next_at : List Entry → ℕ → ℕ
+next_at t place = (slice_index_or t place (record { head = 0; next = 0 })).next
 
 -- forms of valid items no deeper than this are in b from `start` up to `end`, and from this place on the tape has their entries
 pub record AreTapedAt (depth : ℕ) (b : List ℕ) (start place : ℕ) (old new : List Entry) (fs : Forms) (end next : ℕ) : Type 0 where

@@ -1,6 +1,6 @@
 //! Items of every kind, each with its tape.
 ghost use Rattle.std.specs.Prelude.{◌≡◌, ◌+◌, ◌^◌, ◌<◌, ◌≤◌, length, slice_set, IfSome};
-ghost use Rattle.cbor_tape.specs.Parts.{AreMapPairsTapedAt, AreMembersTapedAt, IsContentTapedAt, IsInsideTapedAt, IsTapedAt};
+ghost use Rattle.cbor_tape.specs.Parts.{AreMapPairsTapedAt, AreMembersTapedAt, IsContentTapedAt, IsInsideTapedAt, IsTapedAt, next_at};
 ghost use Rattle.cbor_tape.specs.Tape.{IsWholeTape};
 
 use crate::entry::Entry;
@@ -40,25 +40,37 @@ pub fn whole_tape(bytes: &[u8], depth: u32, tape: &mut [Entry]) -> Option<usize>
     requires short { length bytes.now < 2 ^ 32 }
     ensures { IfSome result (λ end. IsWholeTape depth bytes.now tape.new end) }
 {
-    let extent = item_at(bytes, 0, depth.min(DEEPEST), tape, 0)?;
-    Some(extent.end)
+    item_at(bytes, 0, depth.min(DEEPEST), tape, 0)
 }
 
-// The item at `at`, whose place is `place`. Its entry is put behind those of what is below it, when the next place is known.
+// Where the item at `at` ends, whose place is `place`. Its entry is put behind those of what is below it, when the next place
+// is known.
 #[cycle(taped)]
 #[inline(always)]
-fn item_at(bytes: &[u8], at: usize, depth: u32, tape: &mut [Entry], place: usize) -> Option<Extent>
+fn item_at(bytes: &[u8], at: usize, depth: u32, tape: &mut [Entry], place: usize) -> Option<usize>
     requires room { length bytes.now ≤ length tape.old }
     requires short { length bytes.now < 2 ^ 32 }
     requires place { place ≤ at }
-    ensures { IfSome result (λ r. IsTapedAt depth bytes.now at place tape.old tape.new r.end r.next) }
+    ensures { IfSome result (λ end. IsTapedAt depth bytes.now at place tape.old tape.new end (next_at tape.new place)) }
 {
     if at >= bytes.len() {
         return None;
     }
+    let (argument, start) = argument_at(bytes, at);
+    if start > 0 && !may_have_parts(bytes[at]) {
+        let end = leaf_end(bytes, at, argument, start)?;
+        put(tape, place, at, place + 1);
+        return Some(end);
+    }
     let extent = inside(bytes, at, depth, tape, place + 1)?;
     put(tape, place, at, extent.next);
-    Some(extent)
+    Some(extent.end)
+}
+
+// Whether the initial byte is that of an array, a map or a tag.
+#[inline(always)]
+fn may_have_parts(byte: u8) -> bool {
+    (0x80..0xe0).contains(&byte)
 }
 
 // Puts the entry of the item at `at`: `next` is the place after it and all that is below it.
@@ -75,9 +87,8 @@ fn put(tape: &mut [Entry], place: usize, at: usize, next: usize)
     };
 }
 
-// The item at `at`, with the entries of what is below it from `place` on.
+// The item at `at`, which has parts, with the entries of what is below it from `place` on.
 #[cycle(taped)]
-#[inline(always)]
 fn inside(bytes: &[u8], at: usize, depth: u32, tape: &mut [Entry], place: usize) -> Option<Extent>
     requires room { length bytes.now ≤ length tape.old }
     requires short { length bytes.now < 2 ^ 32 }
@@ -93,10 +104,7 @@ fn inside(bytes: &[u8], at: usize, depth: u32, tape: &mut [Entry], place: usize)
         4 => members(bytes, start, depth, Some(argument), tape, place),
         5 => pairs(bytes, start, depth, Some(argument), tape, place),
         6 => content(bytes, start, depth, tape, place),
-        _ => {
-            let end = leaf_end(bytes, at, argument, start)?;
-            Some(Extent { end, next: place })
-        }
+        _ => None,
     }
 }
 
@@ -148,9 +156,8 @@ fn members(
     let mut next = place;
     let mut read = 0;
     while !is_end(bytes, end, count, read) {
-        let member = item_at(bytes, end, depth - 1, tape, next)?;
-        end = member.end;
-        next = member.next;
+        end = item_at(bytes, end, depth - 1, tape, next)?;
+        next = tape[next].next as usize;
         read += 1;
     }
     Some(Extent {
@@ -184,11 +191,11 @@ fn pairs(
     let mut highest = None;
     while !is_end(bytes, end, count, read) {
         let above = highest_with(bytes, tape, place, next, highest, end)?;
-        let key = item_at(bytes, end, depth - 1, tape, next)?;
-        let value = item_at(bytes, key.end, depth - 1, tape, key.next)?;
+        let after_key = item_at(bytes, end, depth - 1, tape, next)?;
+        let value = tape[next].next as usize;
+        end = item_at(bytes, after_key, depth - 1, tape, value)?;
+        next = tape[value].next as usize;
         highest = Some(above);
-        end = value.end;
-        next = value.next;
         read += 1;
     }
     Some(Extent {
@@ -214,5 +221,9 @@ fn content(
     if depth == 0 {
         return None;
     }
-    item_at(bytes, start, depth - 1, tape, place)
+    let end = item_at(bytes, start, depth - 1, tape, place)?;
+    Some(Extent {
+        end,
+        next: tape[place].next as usize,
+    })
 }
