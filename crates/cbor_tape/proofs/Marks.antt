@@ -2,7 +2,8 @@
 use Rattle.std.proofs.Common.{◌≡◌, ℕ, zero, suc, ◌+◌, ◌/◌, ◌<◌, ◌≤◌, true, false, List, [], ◌∷◌, ◌++◌, length, take, drop, get_or, Some, None, refl, sym, ap, ◌∙◌, subst, arith}
 use Rattle.std.specs.Cmp.Lexicographic.{slice_cmp}
 use Rattle.std.specs.List.{AllByRecursion}
-use Rattle.std.specs.Ordering.{is_gt, nat_cmp, ordering_reverse}
+use Rattle.std.specs.Ordering.{is_gt, nat_cmp, ordering_reverse, ordering_then}
+use Rattle.std.specs.declared.cmp.Ordering.{Ordering}
 use Rattle.std.specs.declared.cmp.Ordering.TheVariants.{Less, Equal, Greater}
 use Rattle.std.proofs.lemmas.Cmp.{nat_list_cmp_total, tied_itself, upto}
 use Rattle.cbor_data.specs.Value.{Value, Pairs, AreBytes}
@@ -128,6 +129,22 @@ with_other b t first last before at top m h k more new =
           let same : high.0 ≡ top = one_mark b before high.0 top high.1 h in
           (top, h, all_with (IsUpTo top) ms m (subst (λ r. AllByRecursion (IsUpTo r) ms) same high.2) (ap is_gt turned));
     }
+
+-- heads decide how marks compare, and where they are equal the strings do
+
+pub by_heads : (m n s h : Ordering) → h ≡ ordering_then m n → (h ≡ Equal → ⊥) → h ≡ ordering_then m (ordering_then n s)
+by_heads Less n s h is differ = is
+by_heads Greater n s h is differ = is
+by_heads Equal Less s h is differ = is
+by_heads Equal Greater s h is differ = is
+by_heads Equal Equal s h is differ = absurd (differ is)
+
+pub by_strings : (m n s : Ordering) → ordering_then m n ≡ Equal → s ≡ ordering_then m (ordering_then n s)
+by_strings Equal Equal s is = refl
+by_strings Equal Less s is = absurd (cc)
+by_strings Equal Greater s is = absurd (cc)
+by_strings Less n s is = absurd (cc)
+by_strings Greater n s is = absurd (cc)
 
 -- marks that do not compare as equal differ
 pub differing : (m n : List ℕ) → (slice_cmp nat_cmp m n ≡ Equal → ⊥) → n ≡ m → ⊥

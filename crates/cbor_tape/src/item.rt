@@ -89,6 +89,7 @@ fn put(tape: &mut [Entry], place: usize, at: usize, next: usize)
 
 // The item at `at`, which has parts, with the entries of what is below it from `place` on.
 #[cycle(taped)]
+#[inline(always)]
 fn inside(bytes: &[u8], at: usize, depth: u32, tape: &mut [Entry], place: usize) -> Option<Extent>
     requires room { length bytes.now ≤ length tape.old }
     requires short { length bytes.now < 2 ^ 32 }

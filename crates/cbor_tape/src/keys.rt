@@ -60,11 +60,14 @@ fn key_at<'a>(bytes: &'a [u8], at: usize) -> Option<Key<'a>>
 fn compare(key: &Key, other: &Key) -> Ordering
     ensures { result ≡ slice_cmp nat_cmp (mark_of key.now) (mark_of other.now) }
 {
-    key.major.cmp(&other.major).then(
-        key.argument
-            .cmp(&other.argument)
-            .then(key.string.cmp(other.string)),
-    )
+    let by_head = key
+        .major
+        .cmp(&other.major)
+        .then(key.argument.cmp(&other.argument));
+    match by_head {
+        Ordering::Equal => key.string.cmp(other.string),
+        _ => by_head,
+    }
 }
 
 /// The highest of some keys and the key at `at`, if that is surely the same as none of them. Their pairs are on the tape from the

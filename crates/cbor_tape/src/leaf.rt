@@ -43,8 +43,9 @@ fn bytes_end(bytes: &[u8], start: usize, len: u64) -> Option<usize>
     }
 }
 
-// Where a text string ends that has so many bytes from `start` on. `None` also where it is not UTF-8.
-#[inline(always)]
+// Where a text string ends that has so many bytes from `start` on. `None` also where it is not UTF-8. The test of that takes more
+// of the stack than all else, so it is not to be a part of the calls that go down.
+#[inline(never)]
 fn text_end(bytes: &[u8], start: usize, len: u64) -> Option<usize>
     requires { start ≤ length bytes.now }
     ensures { IfSome result (λ end. IsTextAt bytes.now start len (text_value (take len (drop start bytes.now))) end) }
