@@ -87,7 +87,7 @@ fn put(tape: &mut [Entry], place: usize, at: usize, next: usize)
     };
 }
 
-// The item at `at`, which has parts, with the entries of what is below it from `place` on.
+// The item at `at`, which has parts or chunks, with the entries of what is below it from `place` on.
 #[cycle(taped)]
 #[inline(always)]
 fn inside(bytes: &[u8], at: usize, depth: u32, tape: &mut [Entry], place: usize) -> Option<Extent>
@@ -109,7 +109,7 @@ fn inside(bytes: &[u8], at: usize, depth: u32, tape: &mut [Entry], place: usize)
     }
 }
 
-// The same of an item whose parts go up to a break.
+// The same of an item whose parts or chunks go up to a break.
 #[cycle(taped)]
 fn inside_to_break(
     bytes: &[u8],

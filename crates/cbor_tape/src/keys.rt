@@ -17,17 +17,17 @@ const STRINGS_BELOW: u8 = 0x80;
 
 const INTEGERS_BELOW: u8 = 0x40;
 
-/// What tells an integer or a string in one part from other keys: its major type, the argument of its head, and the bytes of a
-/// string.
+// What tells an integer or a string in one part from other keys: its major type, the argument of its head, and the bytes of a
+// string.
 #[derive(Clone, Copy)]
-pub struct Key<'a> {
+struct Key<'a> {
     major: u8,
     argument: u64,
     string: &'a [u8],
 }
 
 // The key at `at`, if it is an integer or a string in one part and its bytes are all there.
-fn key_at<'a>(bytes: &'a [u8], at: usize) -> Option<Key<'a>>
+fn key_at(bytes: &[u8], at: usize) -> Option<Key<'_>>
     ensures { IfSome result (λ key. IsKeyAt bytes.now at (mark_of key)) }
 {
     if at >= bytes.len() || bytes[at] >= STRINGS_BELOW {
