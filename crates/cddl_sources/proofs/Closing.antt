@@ -1,18 +1,27 @@
 -- What a piece is stays when the table of terms grows, and by other words for what the terms of its rule are in an instance.
-use Rattle.std.proofs.Common.{◌≡◌, ℕ, Option, Some, None, refl, subst}
+use Rattle.std.proofs.Common.{◌≡◌, ◌∙◌, ℕ, Option, Some, None, ap, option_map, slice_get, refl, subst}
 use Rattle.cddl_language.specs.Reading.{term_of, text_of}
 use Rattle.cddl_language.specs.Terms.{Term, Text}
 use Rattle.check_terms.specs.Table.{Grows, Holds, Table}
 use Rattle.check_terms.specs.Trees.{IsTerm, term_tree}
 use Rattle.table_making.specs.declared.origin.TypeOrigin.{TypeOrigin}
-use Rattle.cddl_sources.specs.Origins.{IsClosedKey, IsClosedOrigin, IsClosedPiece, IsNumberOf, MayBeClosed, in_its_place, is_of, may_be_group, no_type, of_type, of_value, of_word}
-use Rattle.cddl_sources.specs.Pieces.{Piece, a_key, a_member, a_type, a_value, a_word, an_entry, name_there}
+use Rattle.cddl_sources.specs.Origins.{IsClosedKey, IsClosedOrigin, IsClosedPiece, IsNumberOf, MayBeClosed, called_in, in_its_place, is_of, may_be_group, no_type, of_type, of_value, of_word}
+use Rattle.cddl_sources.specs.Pieces.{Called, Piece, a_key, a_member, a_type, a_value, a_word, an_entry, name_there}
+use Rattle.cddl_sources.specs.Walk.{called}
+use Rattle.cddl_sources.specs.declared.piece.NameAt.{NameAt}
 use Rattle.cddl_sources.specs.declared.piece.PieceAt.{PieceAt}
 use Rattle.cddl_sources.proofs.Growing.{kept}
 
-pub name_kept : (old new : Table) (y : Option Text) (o : Option ℕ) → Grows old new → IsNumberOf old y o → IsNumberOf new y o
+called_kept : (old new : Table) (n : NameAt) (y : Called) → Grows old new → called_in old n ≡ Some y → called_in new n ≡ Some y
+called_kept old new n y g e = by (slice_get old.texts n.number) refl e
+  where
+    by : (o : Option Text) → slice_get old.texts n.number ≡ o → option_map (called n.is_unwrapped) o ≡ Some y → called_in new n ≡ Some y
+    by None f h = cc
+    by (Some z) f h = ap (option_map (called n.is_unwrapped)) (g.texts n.number z f) ∙ h
+
+pub name_kept : (old new : Table) (y : Option Called) (o : Option NameAt) → Grows old new → IsNumberOf old y o → IsNumberOf new y o
 name_kept old new None o g h = h
-name_kept old new (Some y) o g h = (h.0, h.1, g.texts h.0 y h.2)
+name_kept old new (Some y) o g h = (h.0, h.1, called_kept old new h.0 y g h.2)
 
 module _ (f g : Term → Term) (e : (t : Term) → term_tree (f t) ≡ term_tree (g t)) (old new : Table) (more : Grows old new) where
   term_as : (n : ℕ) (t : Term) → IsTerm old n (f t) → IsTerm new n (g t)

@@ -1,5 +1,5 @@
 -- Pieces in an instance, one by one.
-use Rattle.std.proofs.Common.{◌≡◌, ◌<◌, ◌⊎◌, ◌≢◌, ◌+◌, inl, inr, ℕ, zero, suc, Bool, true, false, true≢false, if◌then◌else◌, List, [], ◌∷◌, ◌++◌, length, map, Option, Some, None, slice_get, refl, sym, ap, subst, ◌∙◌, arith}
+use Rattle.std.proofs.Common.{◌≡◌, ◌<◌, ◌⊎◌, ◌≢◌, ◌+◌, inl, inr, ℕ, zero, suc, Bool, true, false, if◌then◌else◌, List, [], ◌∷◌, ◌++◌, length, Option, Some, None, slice_get, refl, sym, ap, subst, ◌∙◌, arith}
 use Rattle.std.specs.Cmp.Lexicographic.{same_text}
 use Rattle.std.specs.List.{Contains}
 use Rattle.std.proofs.lemmas.Cmp.{nat_list_eq_equiv}
@@ -9,9 +9,8 @@ use Rattle.tree_nodes.specs.Syntax.Syntax as S
 use Rattle.cddl_language.specs.Environment.{is_same}
 use Rattle.cddl_language.specs.Reading.{definition_of, definitions_in, name_in, parameters_in, term_of}
 use Rattle.cddl_language.specs.Substitution.{fill}
-use Rattle.cddl_language.specs.Terms as L
 use Rattle.cddl_language.specs.Terms.{Ref, Term, Text, arguments_of, name_of}
-use Rattle.check_terms.specs.Definitions.{AreDefinitions, AreTexts, IsDefinition, further_definition, further_text, no_definitions, no_texts}
+use Rattle.check_terms.specs.Definitions.{AreDefinitions, AreTexts, IsDefinition, further_definition, further_text, no_texts}
 use Rattle.check_terms.specs.Filled.{term_trees}
 use Rattle.check_terms.specs.Fill.Slots.{ArePlacesOf}
 use Rattle.check_terms.specs.Fill.Templates.{AreTrees, further_tree, no_trees}
@@ -23,9 +22,9 @@ use Rattle.table_making.specs.declared.origin.TypeOrigin.{TypeOrigin}
 use Rattle.table_making.specs.declared.origin.TypeOrigin.TheVariants as T
 use Rattle.cddl_sources.specs.Filling.{ArePiecesFilled, IsFilled, IsFilling}
 use Rattle.cddl_sources.specs.Instances.{all_as_written, as_written, term_in, with_arguments}
-use Rattle.cddl_sources.specs.Origins.{ArePieces, IsClosedKey, IsClosedOrigin, IsClosedPiece, IsKeyOf, IsPieceAt, MayBeClosed, MayBeOf, Stands, in_its_place, is_of, may_be_group, no_type, of_type, of_value, of_word}
+use Rattle.cddl_sources.specs.Origins.{ArePieces, IsClosedKey, IsClosedOrigin, IsClosedPiece, IsKeyOf, MayBeClosed, MayBeOf, Stands, in_its_place, is_of, may_be_group, no_type, of_type, of_value, of_word}
 use Rattle.cddl_sources.specs.Pieces.{Piece, a_key, a_member, a_type, a_value, a_word, an_entry, in_rule}
-use Rattle.cddl_sources.specs.Sources.{AreRules, IsRuleAt}
+use Rattle.cddl_sources.specs.Sources.{IsRuleAt}
 use Rattle.cddl_sources.specs.declared.filled.Filling.{Filling}
 use Rattle.cddl_sources.specs.declared.piece.PieceAt.{PieceAt}
 use Rattle.cddl_sources.specs.declared.sources.RuleAt.{RuleAt}

@@ -1,5 +1,5 @@
 -- The last link to an instance of a rule of the text, and what the terms of rules are in that instance.
-use Rattle.std.proofs.Common.{◌≡◌, ◌==◌, ◌<◌, ◌⊎◌, inl, inr, append_assoc, ℕ, Bool, true, false, if◌then◌else◌, List, [], ◌∷◌, ◌++◌, drop, map, length, Option, Some, None, option_map, slice_get, refl, sym, ap, subst, ◌∙◌, arith}
+use Rattle.std.proofs.Common.{◌≡◌, ◌==◌, ◌<◌, ◌⊎◌, inl, inr, append_assoc, ℕ, Bool, true, false, if◌then◌else◌, List, [], ◌∷◌, ◌++◌, drop, length, Option, Some, None, option_map, slice_get, refl, sym, ap, subst, ◌∙◌, arith}
 use Rattle.std.specs.List.{Contains}
 use Rattle.std.proofs.lemmas.List.Elements.{Contains-append_right, Contains-push_cases}
 use Rattle.std.proofs.lemmas.Option.{slice_get-map}
@@ -8,10 +8,10 @@ use Rattle.tree_nodes.specs.Syntax.Syntax as S
 use Rattle.cddl_language.specs.Environment.{is_same}
 use Rattle.cddl_language.specs.Language.{TypeName, reference}
 use Rattle.cddl_language.specs.Reading.{name_in, parameters_in, rules_of}
-use Rattle.cddl_language.specs.Terms.{Ref, Term, Text, arguments_of, name_of}
+use Rattle.cddl_language.specs.Terms.{Ref, Term, arguments_of, name_of}
 use Rattle.check_instances.specs.declared.closed.closed.Meaning.{Meaning}
 use Rattle.check_terms.specs.Filled.{term_trees}
-use Rattle.check_terms.specs.Fill.Templates.{AreTrees, further_tree, no_trees}
+use Rattle.check_terms.specs.Fill.Templates.{AreTrees}
 use Rattle.check_terms.specs.Table.{Grows, Table}
 use Rattle.check_terms.specs.Trees.{IsRef, term_tree}
 use Rattle.table_making.specs.Basis.{Sense}
@@ -24,11 +24,10 @@ use Rattle.table_nodes.specs.declared.table.Table.{Table as Made}
 use Rattle.type_links.specs.declared.link.Link.{Link}
 use Rattle.type_links.specs.declared.link.Link.TheVariants as L
 use Rattle.cddl_sources.specs.Instances.{all_as_written, has_arguments, is_some_term, term_in, with_arguments}
-use Rattle.cddl_sources.specs.Origins.{ArePieces, Stands}
+use Rattle.cddl_sources.specs.Origins.{ArePieces}
 use Rattle.cddl_sources.specs.Places.{LeadsTo}
 use Rattle.cddl_sources.specs.Sources.{AreSources, AreTypesOf, IsKept, IsMade, call_of}
 use Rattle.cddl_sources.specs.States.{HasNoRule, HasNumber, HasRule, IsLastAt, IsLastIn, IsOfLast, number_at, number_in, origin_at}
-use Rattle.cddl_sources.specs.declared.piece.PieceAt.{PieceAt}
 use Rattle.cddl_sources.specs.declared.sources.RuleAt.{RuleAt}
 use Rattle.cddl_sources.specs.declared.sources.Sources.{Sources}
 use Rattle.cddl_sources.specs.declared.sources.TypesInText.{TypesInText}

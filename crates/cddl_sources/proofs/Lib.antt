@@ -10,6 +10,9 @@ mod LastInstance
 mod Copying
 mod Reading
 mod Placing
+mod Calling
+mod Counting
+mod Told
 mod Standing
 mod Stepping
 mod Splicing

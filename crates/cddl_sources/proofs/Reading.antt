@@ -15,7 +15,7 @@ use Rattle.tree_nodes.specs.declared.tree.Type1.TheVariants as Type1V
 use Rattle.tree_nodes.specs.View.{view_operator, view_rule, view_type1, view_type2}
 use Rattle.tree_nodes.proofs.Lemmas.{view-One, view-Operation}
 use Rattle.cddl_language.specs.Reading.{operation, term_of1, term_of2}
-use Rattle.cddl_language.specs.Terms.{Term, Text, typed}
+use Rattle.cddl_language.specs.Terms.{Term, typed}
 use Rattle.check_terms.specs.declared.row.Row.{Row}
 use Rattle.check_terms.specs.Table.{Grows, Holds, part, Table}
 use Rattle.check_terms.specs.Trees.{IsEntry, IsTerm, term_tree}

@@ -1,8 +1,8 @@
 -- What numbers say of places is so of the names for which the table's types stand.
-use Rattle.std.proofs.Common.{◌≡◌, ◌++◌, ℕ, zero, suc, ◌+◌, ◌<◌, drop, if◌then◌else◌, nat_eq, arith, Bool, true, false, List, [], ◌∷◌, Option, Some, None, option_map, slice_get, refl, sym, ap, subst, ◌∙◌}
+use Rattle.std.proofs.Common.{◌≡◌, ◌++◌, ℕ, ◌+◌, ◌<◌, drop, if◌then◌else◌, nat_eq, arith, Bool, true, false, List, [], ◌∷◌, Option, Some, None, option_map, slice_get, refl, sym, ap, subst, ◌∙◌}
 use Rattle.std.specs.List.{Contains}
 use Rattle.std.proofs.lemmas.Option.{slice_get-map}
-use Rattle.lists.proofs.Lemmas.{contains_at, is_equal, is_unequal, no_some, one_of, place_of, same_some, some_none, test_equal, unequal_number}
+use Rattle.lists.proofs.Lemmas.{contains_at, is_equal, no_some, one_of, place_of, same_some, some_none, test_equal}
 use Rattle.tree_nodes.specs.Syntax.Syntax as S
 use Rattle.cddl_language.specs.Language.{TypeName, reference, type, word}
 use Rattle.cddl_language.specs.Reading.{name_in, rules_of, term_of, text_of}
@@ -19,32 +19,33 @@ use Rattle.table_making.specs.declared.making.Nodes.{Nodes}
 use Rattle.type_links.specs.declared.link.Link.{Link}
 use Rattle.type_links.specs.declared.link.Link.TheVariants as L
 use Rattle.cddl_sources.specs.Instances.{has_arguments, term_in}
-use Rattle.cddl_sources.specs.Origins.{AreRound, AreRoundIt, IsClosedKey, IsClosedOrigin, IsClosedPiece, IsNumberOf, MayBeClosed, MayBeIn, Stands as IsThere, in_its_place, is_of, may_be_group, no_type, of_type, of_value as of_keyed, of_word as of_token}
-use Rattle.cddl_sources.specs.Pieces.{Around, Piece, a_key, a_member, a_type, a_value, a_word, alternatives_of, an_entry, brackets, in_rule, name_there, the_rule, name_of_piece, told_name, tokens_of_piece}
-use Rattle.cddl_sources.specs.Places.{AreEnds, AreNoPair, ArePairAt, BeginsWithInstance, IsEntryAt, IsEntryNamed, IsEntryWithin, IsKeyAt, IsOf, IsOfNoRule, IsOneAt, IsPlace, IsShown, IsSpliced, IsTypeAt, IsValueAt, IsWritten, Leads, LeadsTo, Make, Stands, StandsAt, StandsIn, a_piece, another, are_ends, arrives, as_it_is, in_a_rule, in_another, in_group, in_map, named, named_in_group, named_in_map, no_rules, of_entry, of_key, of_type as of_one_type, of_value, one_more, passes, the_body, to_one, to_pair, within}
+use Rattle.cddl_sources.specs.Origins.{AreRound, AreRoundIt, IsClosedKey, IsClosedOrigin, IsClosedPiece, IsNumberOf, MayBeClosed, MayBeIn, Stands as IsThere, called_in, in_its_place, is_of, may_be_group, no_type, of_type, of_value as of_keyed, of_word as of_token}
+use Rattle.cddl_sources.specs.Pieces.{Around, Called, Piece, a_key, a_member, a_type, a_value, a_word, an_entry, brackets, in_rule, name_there, plain, the_rule, name_of_piece, told_name, tokens_of_piece, unwrapped}
+use Rattle.cddl_sources.specs.Places.{AreAlike, AreEnds, AreNoPair, ArePairAt, BeginsWithInstance, IsEntryAt, IsEntryNamed, IsEntryUnwrapped, IsEntryWithin, IsKeyAt, IsOf, IsOfNoRule, IsOneAt, IsPlace, IsShown, IsSpliced, IsTypeAt, IsValueAt, IsWritten, Leads, LeadsTo, Stands, StandsAt, StandsFor, StandsIn, a_piece, alone, are_ends, arrives, as_it_is, by_unwrapping, in_a_rule, in_another, in_group, in_map, itself, named, named_alone, named_in_group, named_in_map, of_entry, of_key, of_type as of_one_type, of_value, passes, the_body, to_one, to_pair, within}
 use Rattle.cddl_sources.specs.Sources.{AreTypesOf, IsRuleAt}
 use Rattle.cddl_sources.specs.Spans.{IsNameSpan, IsSpan, IsWithin, Spot, body_tokens}
-use Rattle.cddl_sources.specs.States.{AreNoPairIn, ArePairIn, ArePassed, HasNoRule, HasNumber, IsEntryNamed as IsNamedNumbers, IsEntryOf, IsEntryWithin as IsWithinNumbers, IsFoundAfter, IsFrom, IsKeyIn, IsMember, IsOfLast, IsOneIn, IsSplicedIn, IsStateAfter, IsTold, IsTypeIn, IsInMapFrom, IsValueIn, IsWrittenIn, LeadsIn, arrives as by_none, as_it_is as by_itself, count_in, counted, flattened, named as by_name, name_number, number_at, number_in, named_in_group as numbered_in_group, named_in_map as numbered_in_map, of_entry as by_entry, of_key as by_key, of_type as by_type, of_value as by_value, origin_at, passes as gone_by, text_in, to_one as by_one, to_pair as by_pair, in_another as by_another, in_its_group, in_its_brackets, or_else, told_origin, within as by_brackets}
+use Rattle.cddl_sources.specs.Walk.{called}
+use Rattle.cddl_sources.specs.States.{AreAlikeIn, AreNoPairIn, ArePairIn, ArePassed, HasNoRule, HasNumber, IsEntryNamed as IsNamedNumbers, IsEntryOf, IsEntryUnwrapped as IsUnwrappedNumbers, IsEntryWithin as IsWithinNumbers, IsFoundAfter, IsFrom, IsInBody, IsKeyIn, IsMember, IsOfLast, IsOneIn, IsSplicedIn, IsStateAfter, IsTold, IsTypeIn, IsInMapFrom, IsValueIn, IsWrittenIn, LeadsIn, alone as numbers_alone, arrives as by_none, as_it_is as by_itself, by_unwrapping as by_unwrapped, count_in, counted, ends_of, flattened, named as by_name, name_number, number_at, number_in, named_alone as numbered_alone, named_in_group as numbered_in_group, named_in_map as numbered_in_map, of_entry as by_entry, of_key as by_key, of_type as by_type, of_value as by_value, origin_at, passes as gone_by, text_in, to_one as by_one, to_pair as by_pair, in_another as by_another, itself as number_itself, in_its_group, in_its_brackets, plain_name, told_origin, unwrapped_name, within as by_brackets}
 use Rattle.cddl_sources.specs.declared.piece.EntryAt.{EntryAt}
+use Rattle.cddl_sources.specs.declared.piece.NameAt.{NameAt}
 use Rattle.cddl_sources.specs.declared.piece.PieceAt.{PieceAt}
 use Rattle.cddl_sources.specs.declared.place.Place.{Place}
 use Rattle.cddl_sources.specs.declared.place.State.{State}
 use Rattle.cddl_sources.specs.declared.sources.RuleAt.{RuleAt}
 use Rattle.cddl_sources.specs.declared.sources.TypesInText.{TypesInText}
 use Rattle.cddl_sources.specs.declared.span.Span.{Span}
+use Rattle.cddl_sources.proofs.Calling.{number_there, plain_there, text_at, unwrapped_text, unwrapped_there}
+use Rattle.cddl_sources.proofs.Counting.{AreLike, counted_so, has_number, like_drop, make}
 use Rattle.cddl_sources.proofs.Ending.{one_end, one_start}
 use Rattle.cddl_sources.proofs.Growing.{kept}
 use Rattle.cddl_sources.proofs.Stepping.{found_piece}
+use Rattle.cddl_sources.proofs.Told.{may_name, one_name, one_origin, origin_of, piece_name, place_alone, told_by, told_with}
 
 -- the name of a reference, by its row
 call_number : (t : Table) (n : ℕ) (q : Ref) → IsRef t n q → (k : ℕ) × (text_in (slice_get t.rows n) ≡ Some k) × (slice_get t.texts k ≡ Some (name_of q))
 call_number t n (call name ts) (part e (some_text {n = m} g) a b) = (m, ap text_in e, g)
 
 -- the part of the text where a piece stands, with the name that it is, by its number
-abbrev text_at : Table → Option ℕ → Option Text
-text_at t None = None
-text_at t (Some n) = slice_get t.texts n
-
 abbrev spot_of : Table → PieceAt → Spot
 spot_of t a = record { rule = a.rule; span = a.span; name = text_at t a.name }
 
@@ -181,31 +182,12 @@ module _ (s : Sense) (terms : Table) (nodes : Nodes) (x : TypesInText) (closed :
       by p o (of_token {w = w} {k = n} h) u g = token (text_of w) n h u (g (word (text_of w)) refl)
       by p o (of_keyed {x = y} {n = n} h) u g = row y n h u (g (type (f (term_of y))) refl)
 
-  -- what stands in the text and has the origin of a type, or is of the type
-  origin_of : {f : Term → Term} (p : Piece) (o : Option TypeOrigin) (u : TypeOrigin) → MayBeClosed f k.made.more p o → o ≡ Some u → IsClosedOrigin f k.made.more p u
-  origin_of {f = f} p o u (is_of {u = v} h) e = subst (IsClosedOrigin f k.made.more p) (same_some e) h
-  origin_of p o u no_type e = cc
-  origin_of p o u may_be_group e = cc
-  origin_of p o u in_its_place e = cc
-
-  no_origin : {f : Term → Term} {p : Piece} {u : TypeOrigin} → IsClosedOrigin f k.made.more p u → {r : Around} {q : Piece} → p ≡ a_key r q → ⊥
-  no_origin (of_type h) e = cc
-  no_origin (of_token h) e = cc
-  no_origin (of_keyed h) e = cc
-
   -- the type of a value is of one
   value_is_of : {f : Term → Term} {p : Piece} {o : Option TypeOrigin} → MayBeClosed f k.made.more p o → o ≡ None → (r : Around) (q : Piece) (z : S.Types) → p ≡ a_value r q z → ⊥
   value_is_of (is_of h) e r q z f = cc
   value_is_of no_type e r q z f = cc
   value_is_of may_be_group e r q z f = cc
   value_is_of in_its_place e r q z f = cc
-
-  -- what an entry has as its key is of nothing in its place
-  place_alone : {f : Term → Term} {p : Piece} {o : Option TypeOrigin} → MayBeClosed f k.made.more p o → {r : Around} {q : Piece} → p ≡ a_key r q → o ≡ None
-  place_alone (is_of h) e = absurd (no_origin h e)
-  place_alone no_type e = refl
-  place_alone may_be_group e = refl
-  place_alone in_its_place e = refl
 
   type_origin : (at : Spot) (r : S.Rule) → slice_get (rules_of s.tree) at.rule ≡ Some r → (p : Piece) (m : Link) → IsOf (rules_of s.tree) (IsNameOfType s terms nodes) closed at p m → (o : Option TypeOrigin) → MayBeClosed (closed r) k.made.more p o → (u : TypeOrigin) × (origin_at x m ≡ Some u) × (o ≡ Some u)
   type_origin at r there p m h o d = by p m h.4 d (subst (λ (q : S.Rule). name_of_piece (closed q) p ≡ Some h.2) (one_of (slice_get (rules_of s.tree) at.rule) h.0 r h.1 there) h.3)
@@ -224,7 +206,7 @@ module _ (s : Sense) (terms : Table) (nodes : Nodes) (x : TypesInText) (closed :
   abbrev spot : PieceAt → Spot
   spot a = spot_of k.made.more a
 
-  name_there_is : (o : Option Text) (m : Option ℕ) → IsNumberOf k.made.more o m → text_at k.made.more m ≡ o
+  name_there_is : (o : Option Called) (m : Option NameAt) → IsNumberOf k.made.more o m → text_at k.made.more m ≡ o
   name_there_is None m h = ap (text_at k.made.more) h
   name_there_is (Some y) m h = ap (text_at k.made.more) h.1 ∙ h.2
 
@@ -237,7 +219,7 @@ module _ (s : Sense) (terms : Table) (nodes : Nodes) (x : TypesInText) (closed :
   same_span a b e f = ap (λ (n : ℕ). record { first = n; end = a.end }) e ∙ ap (λ (n : ℕ). record { first = b.first; end = n }) f
 
   same_spot : (a b : Spot) → a.rule ≡ b.rule → a.span ≡ b.span → a.name ≡ b.name → a ≡ b
-  same_spot a b e f g = ap (λ (n : ℕ). record { rule = n; span = a.span; name = a.name }) e ∙ ap (λ (z : Span). record { rule = b.rule; span = z; name = a.name }) f ∙ ap (λ (o : Option Text). record { rule = b.rule; span = b.span; name = o }) g
+  same_spot a b e f g = ap (λ (n : ℕ). record { rule = n; span = a.span; name = a.name }) e ∙ ap (λ (z : Span). record { rule = b.rule; span = z; name = a.name }) f ∙ ap (λ (o : Option Called). record { rule = b.rule; span = b.span; name = o }) g
 
   piece_there : (p : Piece) (at : Spot) → (h : Stands (rules_of s.tree) (IsNameOfType s terms nodes) p at) → (a : PieceAt) × Contains x.pieces.items a × (spot a ≡ at) × IsClosedPiece (closed h.rule) k.made.more p a
   piece_there p at h =
@@ -247,77 +229,25 @@ module _ (s : Sense) (terms : Table) (nodes : Nodes) (x : TypesInText) (closed :
       let name : text_at k.made.more a.0.name ≡ at.name = name_there_is (name_there p) a.0.name a.3.name ∙ sym h.name in
       (a.0, a.1, same_spot (spot a.0) at a.2 (same_span a.0.span at.span first end) name, a.3)
 
-  -- the rules of a name, and how many alternatives they make
-
-  pub record AreLike (rs : List S.Rule) (xs : List RuleAt) : Type 0 where
-    pub told : (i : ℕ) (a : RuleAt) → slice_get xs i ≡ Some a → (r : S.Rule) × (slice_get rs i ≡ Some r) × IsRuleAt k.made.more r a
-    pub all : (i : ℕ) (r : S.Rule) → slice_get rs i ≡ Some r → (a : RuleAt) × (slice_get xs i ≡ Some a)
-
-  like_tail : (r : S.Rule) (rs : List S.Rule) (a : RuleAt) (xs : List RuleAt) → AreLike (r ∷ rs) (a ∷ xs) → AreLike rs xs
-  like_tail r rs a xs h = record { told = λ i b e. h.told (suc i) b e; all = λ i q e. h.all (suc i) q e }
-
-  like_drop : (i : ℕ) (rs : List S.Rule) (xs : List RuleAt) → AreLike rs xs → AreLike (drop i rs) (drop i xs)
-  like_drop zero rs xs h = h
-  like_drop (suc i) [] [] h = h
-  like_drop (suc i) [] (a ∷ xs) h = let w = h.told 0 a refl in absurd (no_some w.1)
-  like_drop (suc i) (r ∷ rs) [] h = let w = h.all 0 r refl in absurd (no_some w.1)
-  like_drop (suc i) (r ∷ rs) (a ∷ xs) h = like_drop i rs xs (like_tail r rs a xs h)
-
-  module _ (n : ℕ) (y : Text) (e : slice_get k.made.more.texts n ≡ Some y) where
-    is_named : (r : S.Rule) (a : RuleAt) → IsRuleAt k.made.more r a → a.number ≡ n → name_in r ≡ y
-    is_named r a h f = same_some (sym h.number ∙ ap (slice_get k.made.more.texts) f ∙ e)
-
-    has_number : (r : S.Rule) (a : RuleAt) → IsRuleAt k.made.more r a → name_in r ≡ y → a.number ≡ n
-    has_number r a h f = k.made.distinct a.number n y (h.number ∙ ap Some f) e
-
-    make : (rs : List S.Rule) (xs : List RuleAt) → AreLike rs xs → Make (rules_of s.tree) (IsNameOfType s terms nodes) y rs (counted n xs)
-    make [] [] h = no_rules
-    make [] (a ∷ xs) h = let w = h.told 0 a refl in absurd (no_some w.1)
-    make (r ∷ rs) [] h = let w = h.all 0 r refl in absurd (no_some w.1)
-    make (r ∷ rs) (a ∷ xs) h = by (make rs xs (like_tail r rs a xs h)) (nat_eq a.number n) refl
-      where
-        w : (q : S.Rule) × (Some r ≡ Some q) × IsRuleAt k.made.more q a
-        w = h.told 0 a refl
-
-        at : IsRuleAt k.made.more r a
-        at = subst (λ (q : S.Rule). IsRuleAt k.made.more q a) (sym (same_some w.1)) w.2
-
-        by : Make (rules_of s.tree) (IsNameOfType s terms nodes) y rs (counted n xs) → (b : Bool) → nat_eq a.number n ≡ b → Make (rules_of s.tree) (IsNameOfType s terms nodes) y (r ∷ rs) (counted n (a ∷ xs))
-        by rest true f =
-            let same : alternatives_of r + counted n xs ≡ counted n (a ∷ xs) = ap (λ (m : ℕ). m + counted n xs) (sym at.alternatives ∙ sym (ap (λ (b : Bool). if b then a.alternatives else 0) f)) in
-            subst (λ (m : ℕ). Make (rules_of s.tree) (IsNameOfType s terms nodes) y (r ∷ rs) m) same (one_more (is_named r a at (is_equal a.number n f)) rest)
-        by rest false f =
-            let none : 0 + counted n xs ≡ counted n xs = omega arith in
-            let same : counted n xs ≡ counted n (a ∷ xs) = sym (ap (λ (b : Bool). (if b then a.alternatives else 0) + counted n xs) f ∙ none) in
-            subst (λ (m : ℕ). Make (rules_of s.tree) (IsNameOfType s terms nodes) y (r ∷ rs) m) same (another (λ g. is_unequal a.number n f (has_number r a at g)) rest)
-
-    counted_so : (rs : List S.Rule) (xs : List RuleAt) (m : ℕ) → AreLike rs xs → Make (rules_of s.tree) (IsNameOfType s terms nodes) y rs m → counted n xs ≡ m
-    counted_so [] [] m h no_rules = refl
-    counted_so [] (a ∷ xs) m h d = let w = h.told 0 a refl in absurd (no_some w.1)
-    counted_so (r ∷ rs) [] m h d = let w = h.all 0 r refl in absurd (no_some w.1)
-    counted_so (r ∷ rs) (a ∷ xs) m h (one_more {k = j} f d) =
-        let w = h.told 0 a refl in
-        let at : IsRuleAt k.made.more r a = subst (λ (q : S.Rule). IsRuleAt k.made.more q a) (sym (same_some w.1)) w.2 in
-        let equal : nat_eq a.number n ≡ true = test_equal a.number n (has_number r a at f) in
-        ap (λ (b : Bool). (if b then a.alternatives else 0) + counted n xs) equal ∙ ap (λ (c : ℕ). c + counted n xs) at.alternatives ∙ ap (λ (c : ℕ). alternatives_of r + c) (counted_so rs xs j (like_tail r rs a xs h) d)
-    counted_so (r ∷ rs) (a ∷ xs) m h (another f d) =
-        let w = h.told 0 a refl in
-        let at : IsRuleAt k.made.more r a = subst (λ (q : S.Rule). IsRuleAt k.made.more q a) (sym (same_some w.1)) w.2 in
-        let other : nat_eq a.number n ≡ false = unequal_number a.number n (λ g. f (is_named r a at g)) in
-        let none : 0 + counted n xs ≡ counted n xs = omega arith in
-        ap (λ (b : Bool). (if b then a.alternatives else 0) + counted n xs) other ∙ none ∙ counted_so rs xs m (like_tail r rs a xs h) d
-
-  rules_like : AreLike (rules_of s.tree) x.rules.items
+  rules_like : AreLike (rules_of s.tree) (IsNameOfType s terms nodes) k.made.more k.made.distinct (rules_of s.tree) x.rules.items
   rules_like = record { told = k.made.rules.told; all = k.made.rules.all }
 
   -- what is round a group is the part of the text that was found
 
-  round_ends : (around : PieceAt) (r : Around) (m : Option Span) → AreRound r m → m ≡ Some around.span → AreEnds (spot around) r
-  round_ends around (brackets o c) m b e = let span : around.span ≡ b.0 = same_some (sym e ∙ b.1) in are_ends (ap (λ (z : Span). z.first) span ∙ b.2) (ap (λ (z : Span). z.end) span ∙ b.3)
-  round_ends around the_rule m b e = absurd (some_none (sym e ∙ b))
+  round_ends : (z : Span) (r : Around) (m : Option Span) → AreRound r m → m ≡ Some z → AreEnds z r
+  round_ends z (brackets o c) m b e = let span : z ≡ b.0 = same_some (sym e ∙ b.1) in are_ends (ap (λ (w : Span). w.first) span ∙ b.2) (ap (λ (w : Span). w.end) span ∙ b.3)
+  round_ends z the_rule m b e = absurd (some_none (sym e ∙ b))
 
-  ends_round : (around : PieceAt) (r : Around) (m : Option Span) → AreEnds (spot around) r → AreRound r m → m ≡ Some around.span
-  ends_round around r m (are_ends opens closes) b = b.1 ∙ ap Some (same_span b.0 around.span (b.2 ∙ sym opens) (b.3 ∙ sym closes))
+  ends_round : (z : Span) (r : Around) (m : Option Span) → AreEnds z r → AreRound r m → m ≡ Some z
+  ends_round z r m (are_ends opens closes) b = b.1 ∙ ap Some (same_span b.0 z (b.2 ∙ sym opens) (b.3 ∙ sym closes))
+
+  -- a name whose text is there is known
+  known_name : (n : NameAt) (y : Called) → called_in k.made.more n ≡ Some y → n.number < x.names
+  known_name n y e = by (slice_get k.made.more.texts n.number) refl e
+    where
+      by : (o : Option Text) → slice_get k.made.more.texts n.number ≡ o → option_map (called n.is_unwrapped) o ≡ Some y → n.number < x.names
+      by None f g = cc
+      by (Some z) f g = k.made.names n.number z f
 
   -- an entry of what was found, in brackets or by its name
   entry_within_at : (around a : PieceAt) (j i : ℕ) → IsWithinNumbers x around j i a → IsEntryWithin (rules_of s.tree) (IsNameOfType s terms nodes) (spot around) j i (spot a)
@@ -336,7 +266,7 @@ module _ (s : Sense) (terms : Table) (nodes : Nodes) (x : TypesInText) (closed :
             inner = e;
             stands = subst (λ (w : ℕ). Stands (rules_of s.tree) (IsNameOfType s terms nodes) (an_entry r j w e) (spot a)) place (subst (λ (w : ℕ). Stands (rules_of s.tree) (IsNameOfType s terms nodes) (an_entry r w z e) (spot a)) alternative there);
             rule = h.rule;
-            ends = round_ends around r a.around b h.round;
+            ends = round_ends around.span r a.around b h.round;
           }
       by (a_type z) b g there = absurd (some_none (sym h.is.there ∙ g))
       by (a_word w) b g there = absurd (some_none (sym h.is.there ∙ g))
@@ -359,10 +289,10 @@ module _ (s : Sense) (terms : Table) (nodes : Nodes) (x : TypesInText) (closed :
   entry_named_at around a j i h = by st.piece st.is.around st.is.entry (stands a st) refl
     where
       st : IsThere closed k.made.more (rules_of s.tree) a
-      st = k.made.pieces.each a h.is.contained
+      st = k.made.pieces.each a h.is.is.contained
 
-      at : (at : RuleAt) × (slice_get x.rules.items a.rule ≡ Some at) × (at.number ≡ h.name) × (h.own < at.alternatives)
-      at = rule_counted a.rule h.name h.own h.is_alternative.less
+      at : (at : RuleAt) × (slice_get x.rules.items a.rule ≡ Some at) × (at.number ≡ h.name) × (h.is.own < at.alternatives)
+      at = rule_counted a.rule h.name h.is.own h.is.is_alternative.less
 
       told : (r : S.Rule) × (slice_get (rules_of s.tree) a.rule ≡ Some r) × IsRuleAt k.made.more r at.0
       told = k.made.rules.told a.rule at.0 at.1
@@ -378,76 +308,277 @@ module _ (s : Sense) (terms : Table) (nodes : Nodes) (x : TypesInText) (closed :
 
       by : (p : Piece) → AreRoundIt p a.around → MayBeIn p a.entry → (there : Stands (rules_of s.tree) (IsNameOfType s terms nodes) p (spot a)) → there.rule ≡ st.rule → IsEntryNamed (rules_of s.tree) (IsNameOfType s terms nodes) (spot around) j i (spot a)
       by (an_entry the_rule l z e) b g there is =
-          let same : h.is.is.entry ≡ g.0 = same_some (sym h.is.is.there ∙ g.1) in
-          let alternative : l ≡ h.own = sym g.2.alternative ∙ ap (λ (b : EntryAt). b.alternative) (sym same) ∙ h.is.is.same_alternative in
-          let place : z ≡ i = sym g.2.place ∙ ap (λ (b : EntryAt). b.place) (sym same) ∙ h.is.is.same_place in
-          let there_so : Stands (rules_of s.tree) (IsNameOfType s terms nodes) (an_entry the_rule h.own i e) (spot a) = record {
+          let same : h.is.is.is.entry ≡ g.0 = same_some (sym h.is.is.is.there ∙ g.1) in
+          let alternative : l ≡ h.is.own = sym g.2.alternative ∙ ap (λ (b : EntryAt). b.alternative) (sym same) ∙ h.is.is.is.same_alternative in
+          let place : z ≡ i = sym g.2.place ∙ ap (λ (b : EntryAt). b.place) (sym same) ∙ h.is.is.is.same_place in
+          let there_so : Stands (rules_of s.tree) (IsNameOfType s terms nodes) (an_entry the_rule h.is.own i e) (spot a) = record {
             rule = st.rule;
             there = st.there;
-            contained = subst (λ (w : ℕ). Contains (in_rule st.rule) (an_entry the_rule h.own w e)) place (subst (λ (w : ℕ). Contains (in_rule st.rule) (an_entry the_rule w z e)) alternative (subst (λ (r : S.Rule). Contains (in_rule r) (an_entry the_rule l z e)) is there.contained));
+            contained = subst (λ (w : ℕ). Contains (in_rule st.rule) (an_entry the_rule h.is.own w e)) place (subst (λ (w : ℕ). Contains (in_rule st.rule) (an_entry the_rule w z e)) alternative (subst (λ (r : S.Rule). Contains (in_rule r) (an_entry the_rule l z e)) is there.contained));
             span = there.span;
             name = there.name;
           } in
           record {
             name = name_in st.rule;
-            is_name = ap (text_at k.made.more) h.is_name ∙ number;
-            own = h.own;
+            is_name = ap (text_at k.made.more) h.is_name ∙ ap (option_map (called false)) number;
+            own = h.is.own;
             inner = e;
             stands = there_so;
             named = refl;
             less = let l = at.3 in let c = rule.alternatives in omega (arith, l, c);
             after = counted h.name (drop (a.rule + 1) x.rules.items);
-            make = make h.name (name_in st.rule) number (drop (a.rule + 1) (rules_of s.tree)) (drop (a.rule + 1) x.rules.items) (like_drop (a.rule + 1) (rules_of s.tree) x.rules.items rules_like);
-            whole = h.is_alternative.after;
+            make = make (rules_of s.tree) (IsNameOfType s terms nodes) k.made.more k.made.distinct h.name (name_in st.rule) number (drop (a.rule + 1) (rules_of s.tree)) (drop (a.rule + 1) x.rules.items) (like_drop (rules_of s.tree) (IsNameOfType s terms nodes) k.made.more k.made.distinct (a.rule + 1) (rules_of s.tree) x.rules.items rules_like);
+            whole = h.is.is_alternative.after;
           }
-      by (an_entry (brackets o c) l z e) b g there is = absurd (some_none (sym b.1 ∙ h.is.round))
-      by (a_type z) b g there is = absurd (some_none (sym h.is.is.there ∙ g))
-      by (a_word w) b g there is = absurd (some_none (sym h.is.is.there ∙ g))
-      by (a_key r q) b g there is = absurd (some_none (sym h.is.is.there ∙ g))
-      by (a_value r q z) b g there is = absurd (some_none (sym h.is.is.there ∙ g))
-      by (a_member r z) b g there is = absurd (some_none (sym h.is.is.there ∙ g))
+      by (an_entry (brackets o c) l z e) b g there is = absurd (some_none (sym b.1 ∙ h.is.is.round))
+      by (a_type z) b g there is = absurd (some_none (sym h.is.is.is.there ∙ g))
+      by (a_word w) b g there is = absurd (some_none (sym h.is.is.is.there ∙ g))
+      by (a_key r q) b g there is = absurd (some_none (sym h.is.is.is.there ∙ g))
+      by (a_value r q z) b g there is = absurd (some_none (sym h.is.is.is.there ∙ g))
+      by (a_member r z) b g there is = absurd (some_none (sym h.is.is.is.there ∙ g))
 
-  entry_at : (from : Option PieceAt) (j i : ℕ) (a : PieceAt) → IsEntryOf x from j i a → IsEntryAt (rules_of s.tree) (IsNameOfType s terms nodes) (option_map spot from) j i (spot a)
-  entry_at from j i a (by_brackets {around = b} h) = within (entry_within_at b a j i h)
-  entry_at from j i a (by_name {around = b} h) = named (entry_named_at b a j i h)
+  -- a name that stands for the group of a piece
+
+  rule_there : (i n : ℕ) (h : HasNumber x i n) (r : S.Rule) → slice_get (rules_of s.tree) i ≡ Some r → IsRuleAt k.made.more r h.at
+  rule_there i n h r there =
+      let told = k.made.rules.told i h.at h.there in
+      subst (λ (q : S.Rule). IsRuleAt k.made.more q h.at) (one_of (slice_get (rules_of s.tree) i) told.0 r told.1 there) told.2
+
+  body_called : (a : PieceAt) (n : NameAt) (st : IsThere closed k.made.more (rules_of s.tree) a) → IsInBody x a n → called_in k.made.more n ≡ Some (called n.is_unwrapped (name_in st.rule))
+  body_called a n st h = ap (option_map (called n.is_unwrapped)) (ap (slice_get k.made.more.texts) (sym h.rule.same) ∙ (rule_there a.rule n.number h.rule st.rule st.there).number)
+
+  stands_for : (a : PieceAt) (n : NameAt) (st : IsThere closed k.made.more (rules_of s.tree) a) (r : Around) → IsInBody x a n → AreRound r a.around → StandsFor (called n.is_unwrapped (name_in st.rule)) st.rule r
+  stands_for a n st r h b = by n.is_unwrapped r h.around b
+    where
+      by : (f : Bool) (r : Around) → a.around ≡ ends_of f h.rule.at → AreRound r a.around → StandsFor (called f (name_in st.rule)) st.rule r
+      by false the_rule e b = (refl, refl)
+      by false (brackets o c) e b = absurd (some_none (sym b.1 ∙ e))
+      by true r e b = (refl, record { span = h.rule.at.body; is = (rule_there a.rule n.number h.rule st.rule st.there).body; ends = round_ends h.rule.at.body r a.around b e })
 
   entry_within_in : (around : PieceAt) (j i : ℕ) (at : Spot) → IsEntryWithin (rules_of s.tree) (IsNameOfType s terms nodes) (spot around) j i at → (a : PieceAt) × IsWithinNumbers x around j i a
   entry_within_in around j i at h =
       let w = piece_there (an_entry h.round j i h.inner) at h.stands in
       let g = w.3.entry in
       let rule : w.0.rule ≡ around.rule = ap (λ (z : Spot). z.rule) w.2 ∙ h.rule in
-      (w.0, record { contained = w.1; rule = rule; round = ends_round around h.round w.0.around h.ends w.3.around; is = record { entry = g.0; there = g.1; same_alternative = g.2.alternative; same_place = g.2.place } })
-
-  number_there : (m : Option ℕ) (y : Text) → text_at k.made.more m ≡ Some y → (n : ℕ) × (m ≡ Some n) × (slice_get k.made.more.texts n ≡ Some y)
-  number_there None y e = cc
-  number_there (Some n) y e = (n, refl, e)
+      (w.0, record { contained = w.1; rule = rule; round = ends_round around.span h.round w.0.around h.ends w.3.around; is = record { entry = g.0; there = g.1; same_alternative = g.2.alternative; same_place = g.2.place } })
 
   entry_named_in : (around : PieceAt) (j i : ℕ) (at : Spot) → IsEntryNamed (rules_of s.tree) (IsNameOfType s terms nodes) (spot around) j i at → (a : PieceAt) × IsNamedNumbers x around j i a
   entry_named_in around j i at h =
       let w = piece_there (an_entry the_rule h.own i h.inner) at h.stands in
       let a = w.0 in
       let g = w.3.entry in
-      let n = number_there around.name h.name h.is_name in
+      let m = number_there k.made.more around.name (plain h.name) h.is_name in
+      let its_name = plain_there k.made.more m.0 h.name m.2 in
+      let n : ℕ = m.0.number in
       let rule : a.rule ≡ at.rule = ap (λ (z : Spot). z.rule) w.2 in
       let ra = k.made.rules.all at.rule h.stands.rule h.stands.there in
       let told = k.made.rules.told at.rule ra.0 ra.1 in
       let is : told.0 ≡ h.stands.rule = one_of (slice_get (rules_of s.tree) at.rule) told.0 h.stands.rule told.1 h.stands.there in
       let its : IsRuleAt k.made.more h.stands.rule ra.0 = subst (λ (r : S.Rule). IsRuleAt k.made.more r ra.0) is told.2 in
-      let number : ra.0.number ≡ n.0 = has_number n.0 h.name n.2 h.stands.rule ra.0 its h.named in
-      let count : count_in n.0 (slice_get x.rules.items a.rule) ≡ ra.0.alternatives = ap (count_in n.0) (ap (slice_get x.rules.items) rule ∙ ra.1) ∙ ap (λ (b : Bool). if b then ra.0.alternatives else 0) (test_equal ra.0.number n.0 number) in
-      let after : counted n.0 (drop (at.rule + 1) x.rules.items) ≡ h.after = counted_so n.0 h.name n.2 (drop (at.rule + 1) (rules_of s.tree)) (drop (at.rule + 1) x.rules.items) h.after (like_drop (at.rule + 1) (rules_of s.tree) x.rules.items rules_like) h.make in (
+      let number : ra.0.number ≡ n = has_number (rules_of s.tree) (IsNameOfType s terms nodes) k.made.more k.made.distinct n h.name its_name.1 h.stands.rule ra.0 its h.named in
+      let count : count_in n (slice_get x.rules.items a.rule) ≡ ra.0.alternatives = ap (count_in n) (ap (slice_get x.rules.items) rule ∙ ra.1) ∙ ap (λ (b : Bool). if b then ra.0.alternatives else 0) (test_equal ra.0.number n number) in
+      let after : counted n (drop (at.rule + 1) x.rules.items) ≡ h.after = counted_so (rules_of s.tree) (IsNameOfType s terms nodes) k.made.more k.made.distinct n h.name its_name.1 (drop (at.rule + 1) (rules_of s.tree)) (drop (at.rule + 1) x.rules.items) h.after (like_drop (rules_of s.tree) (IsNameOfType s terms nodes) k.made.more k.made.distinct (at.rule + 1) (rules_of s.tree) x.rules.items rules_like) h.make in (
         a,
         record {
-          name = n.0;
-          is_name = n.1;
-          own = h.own;
-          is_alternative = record {
-            less = let l = h.less in let c = its.alternatives in omega (arith, l, c, count);
-            after = ap (λ (r : ℕ). h.own + counted n.0 (drop (r + 1) x.rules.items)) rule ∙ ap (λ (m : ℕ). h.own + m) after ∙ h.whole;
+          name = n;
+          is_name = m.1 ∙ ap Some its_name.0;
+          is = record {
+            own = h.own;
+            is_alternative = record {
+              less = let l = h.less in let c = its.alternatives in omega (arith, l, c, count);
+              after = ap (λ (r : ℕ). h.own + counted n (drop (r + 1) x.rules.items)) rule ∙ ap (λ (m : ℕ). h.own + m) after ∙ h.whole;
+            };
+            is = record { contained = w.1; rule = refl; round = w.3.around; is = record { entry = g.0; there = g.1; same_alternative = g.2.alternative; same_place = g.2.place } };
           };
-          is = record { contained = w.1; rule = refl; round = w.3.around; is = record { entry = g.0; there = g.1; same_alternative = g.2.alternative; same_place = g.2.place } };
         },
       )
+
+  -- a rule has the number of its name
+  rule_number : (i j n : ℕ) (y : Text) (r : S.Rule) → i ≡ j → slice_get (rules_of s.tree) j ≡ Some r → name_in r ≡ y → slice_get k.made.more.texts n ≡ Some y → HasNumber x i n
+  rule_number i j n y r same there f e =
+      let ra = k.made.rules.all j r there in
+      let told = k.made.rules.told j ra.0 ra.1 in
+      let is : told.0 ≡ r = one_of (slice_get (rules_of s.tree) j) told.0 r told.1 there in
+      record { at = ra.0; there = ap (slice_get x.rules.items) same ∙ ra.1; same = k.made.distinct ra.0.number n y (told.2.number ∙ ap Some (ap name_in is ∙ f)) e }
+
+  body_in : (a : PieceAt) (i : ℕ) (rule : S.Rule) (n : NameAt) (y : Called) (r : Around) → a.rule ≡ i → slice_get (rules_of s.tree) i ≡ Some rule → called_in k.made.more n ≡ Some y → StandsFor y rule r → AreRound r a.around → IsInBody x a n
+  body_in a i rule n (plain y) r same there e for b =
+      let w = plain_there k.made.more n y e in
+      record {
+        rule = rule_number a.rule i n.number y rule same there for.0 w.1;
+        around = subst (λ (q : Around). AreRound q a.around) for.1 b ∙ ap (λ (z : NameAt). ends_of z.is_unwrapped (rule_number a.rule i n.number y rule same there for.0 w.1).at) (sym w.0);
+      }
+  body_in a i rule n (unwrapped y) r same there e for b =
+      let w = unwrapped_there k.made.more n y e in
+      let h = rule_number a.rule i n.number y rule same there for.0 w.1 in
+      let its = rule_there a.rule n.number h rule (ap (slice_get (rules_of s.tree)) same ∙ there) in
+      let first = one_start (body_tokens rule) for.1.span.first h.at.body.first for.1.is.starts its.body.starts in
+      let end = one_end (body_tokens rule) for.1.span.end h.at.body.end for.1.is.ends its.body.ends in
+      record {
+        rule = h;
+        around = ends_round for.1.span r a.around for.1.ends b ∙ ap Some (same_span for.1.span h.at.body first end) ∙ ap (λ (z : NameAt). ends_of z.is_unwrapped h.at) (sym w.0);
+      }
+
+  -- the names that stand for entries that are a map's
+
+  member_of : (n : NameAt) (y : Called) (a : PieceAt) → called_in k.made.more n ≡ Some y → IsMember x n a → (st : IsThere closed k.made.more (rules_of s.tree) a) → (r : Around) × (t : S.Types) × (st.piece ≡ a_member r t) × AreRound r a.around
+  member_of n y a e m st = by st.piece refl st.is.entry st.is.around (sym (name_there_is (name_there st.piece) a.name st.is.name) ∙ ap (text_at k.made.more) m.name ∙ e)
+    where
+      by : (p : Piece) → st.piece ≡ p → MayBeIn p a.entry → AreRoundIt p a.around → name_there p ≡ Some y → (r : Around) × (t : S.Types) × (st.piece ≡ a_member r t) × AreRound r a.around
+      by (a_member r t) is g b f = (r, t, is, b)
+      by (an_entry r j i z) is g b f = absurd (some_none (sym g.1 ∙ m.alone))
+      by (a_type z) is g b f = cc
+      by (a_word w) is g b f = cc
+      by (a_key r q) is g b f = cc
+      by (a_value r q z) is g b f = cc
+
+  member_stands : (a : PieceAt) (st : IsThere closed k.made.more (rules_of s.tree) a) (p : Piece) → st.piece ≡ p → (h : Stands (rules_of s.tree) (IsNameOfType s terms nodes) p (spot a)) × (h.rule ≡ st.rule)
+  member_stands a st p e = subst (λ (q : Piece). (h : Stands (rules_of s.tree) (IsNameOfType s terms nodes) q (spot a)) × (h.rule ≡ st.rule)) e (stands a st, refl)
+
+  alone_at : (map a : PieceAt) (y : Text) (st : IsThere closed k.made.more (rules_of s.tree) a) (r : Around) (t : S.Types) → st.piece ≡ a_member r t → (spot a).name ≡ Some (plain y) → AreRound r a.around → a.around ≡ None → IsSpliced (rules_of s.tree) (IsNameOfType s terms nodes) (spot map) (unwrapped (name_in st.rule)) → IsSpliced (rules_of s.tree) (IsNameOfType s terms nodes) (spot map) (unwrapped y)
+  alone_at map a y st (brackets o c) t is name round none rest = absurd (some_none (sym round.1 ∙ none))
+  alone_at map a y st the_rule t is name round none rest =
+      let h = member_stands a st (a_member the_rule t) is in
+      named_alone h.0 name (subst (λ (r : S.Rule). IsSpliced (rules_of s.tree) (IsNameOfType s terms nodes) (spot map) (unwrapped (name_in r))) (sym h.1) rest)
+
+  spliced_at : (map : PieceAt) {n : NameAt} → IsSplicedIn x map n → (y : Called) → called_in k.made.more n ≡ Some y → IsSpliced (rules_of s.tree) (IsNameOfType s terms nodes) (spot map) y
+  spliced_at map (numbered_in_map {n = n} {a = a} known m b) y e =
+      let st = k.made.pieces.each a m.contained in
+      let w = member_of n y a e m st in
+      let h = member_stands a st (a_member w.0 w.1) w.2 in
+      named_in_map h.0 (ap (text_at k.made.more) m.name ∙ e) b.0 (round_ends map.span w.0 a.around w.3 b.1)
+  spliced_at map (numbered_in_group {n = n} {m = j} {a = a} known m b g) y e =
+      let st = k.made.pieces.each a m.contained in
+      let w = member_of n y a e m st in
+      let h = member_stands a st (a_member w.0 w.1) w.2 in
+      let z = called j.is_unwrapped (name_in st.rule) in
+      named_in_group h.0 (ap (text_at k.made.more) m.name ∙ e) (spliced_at map g z (body_called a j st b)) (subst (λ (r : S.Rule). StandsFor z r w.0) (sym h.1) (stands_for a j st w.0 b w.3))
+  spliced_at map (numbered_alone {n = n} {m = j} {a = a} known m b g) y e =
+      let st = k.made.pieces.each a m.contained in
+      let t = unwrapped_text k.made.more n y e in
+      let plain_is : called_in k.made.more (plain_name n) ≡ Some (plain t.0) = ap (option_map (called false)) t.2 in
+      let w = member_of (plain_name n) (plain t.0) a plain_is m st in
+      let number : slice_get k.made.more.texts j ≡ Some (name_in st.rule) = ap (slice_get k.made.more.texts) (sym b.rule.same) ∙ (rule_there a.rule j b.rule st.rule st.there).number in
+      let rest = spliced_at map g (unwrapped (name_in st.rule)) (ap (option_map (called true)) number) in
+      subst (IsSpliced (rules_of s.tree) (IsNameOfType s terms nodes) (spot map)) (sym t.1) (alone_at map a t.0 st w.0 w.1 w.2 (ap (text_at k.made.more) m.name ∙ plain_is) w.3 b.around rest)
+
+  member_in : (r : Around) (t : S.Types) (at : Spot) (y : Called) → at.name ≡ Some y → (h : Stands (rules_of s.tree) (IsNameOfType s terms nodes) (a_member r t) at) → (a : PieceAt) × (n : NameAt) × IsMember x n a × (a.rule ≡ at.rule) × AreRound r a.around × (called_in k.made.more n ≡ Some y)
+  member_in r t at y name h =
+      let w = piece_there (a_member r t) at h in
+      let g : IsNumberOf k.made.more (Some y) w.0.name = subst (λ (o : Option Called). IsNumberOf k.made.more o w.0.name) (sym h.name ∙ name) w.3.name in
+      (w.0, g.0, record { contained = w.1; alone = w.3.entry; name = g.1 }, ap (λ (z : Spot). z.rule) w.2, w.3.around, g.2)
+
+  spliced_in : (map : PieceAt) {y : Called} → IsSpliced (rules_of s.tree) (IsNameOfType s terms nodes) (spot map) y → (n : NameAt) × (called_in k.made.more n ≡ Some y) × IsSplicedIn x map n
+  spliced_in map (named_in_map {a = r} {t = t} {at = at} {n = y} h name rule ends) =
+      let w = member_in r t at y name h in
+      (w.1, w.5, numbered_in_map (known_name w.1 y w.5) w.2 (w.3 ∙ rule, ends_round map.span r w.0.around ends w.4))
+  spliced_in map (named_in_group {a = r} {t = t} {at = at} {n = y} {m = z} h name g for) =
+      let w = member_in r t at y name h in
+      let m = spliced_in map g in
+      (w.1, w.5, numbered_in_group (known_name w.1 y w.5) w.2 (body_in w.0 at.rule h.rule m.0 z r w.3 h.there m.1 for w.4) m.2)
+  spliced_in map (named_alone {t = t} {at = at} {n = y} h name g) =
+      let w = member_in the_rule t at (plain y) name h in
+      let m = spliced_in map g in
+      let own = plain_there k.made.more w.1 y w.5 in
+      let its = unwrapped_there k.made.more m.0 (name_in h.rule) m.1 in
+      let in_rule = body_in w.0 at.rule h.rule (plain_name m.0.number) (plain (name_in h.rule)) the_rule w.3 h.there (ap (option_map (called false)) its.1) (refl, refl) w.4 in (
+        unwrapped_name w.1.number,
+        ap (option_map (called true)) own.1,
+        numbered_alone (known_name w.1 (plain y) w.5) (subst (λ (z : NameAt). IsMember x z w.0) own.0 w.2) in_rule (subst (IsSplicedIn x map) its.0 m.2),
+      )
+
+  -- the names of which `~` gives what it gives of one
+
+  alone_like : (a : PieceAt) (y z : Text) (st : IsThere closed k.made.more (rules_of s.tree) a) (r : Around) (t : S.Types) → st.piece ≡ a_member r t → (spot a).name ≡ Some (plain y) → AreRound r a.around → a.around ≡ None → AreAlike (rules_of s.tree) (IsNameOfType s terms nodes) z (name_in st.rule) → AreAlike (rules_of s.tree) (IsNameOfType s terms nodes) z y
+  alone_like a y z st (brackets o c) t is name round none rest = absurd (some_none (sym round.1 ∙ none))
+  alone_like a y z st the_rule t is name round none rest =
+      let h = member_stands a st (a_member the_rule t) is in
+      alone h.0 name (subst (λ (r : S.Rule). AreAlike (rules_of s.tree) (IsNameOfType s terms nodes) z (name_in r)) (sym h.1) rest)
+
+  alike_at : {n i : ℕ} → AreAlikeIn x n i → (t : Text) → slice_get k.made.more.texts i ≡ Some t → (y : Text) × (slice_get k.made.more.texts n ≡ Some y) × AreAlike (rules_of s.tree) (IsNameOfType s terms nodes) y t
+  alike_at (number_itself known) t e = (t, e, itself)
+  alike_at (numbers_alone {k = i} {m = j} {a = a} known m b g) t e =
+      let st = k.made.pieces.each a m.contained in
+      let plain_is : called_in k.made.more (plain_name i) ≡ Some (plain t) = ap (option_map (called false)) e in
+      let w = member_of (plain_name i) (plain t) a plain_is m st in
+      let number : slice_get k.made.more.texts j ≡ Some (name_in st.rule) = ap (slice_get k.made.more.texts) (sym b.rule.same) ∙ (rule_there a.rule j b.rule st.rule st.there).number in
+      let rest = alike_at g (name_in st.rule) number in
+      (rest.0, rest.1, alone_like a t rest.0 st w.0 w.1 w.2 (ap (text_at k.made.more) m.name ∙ plain_is) w.3 b.around rest.2)
+
+  alike_in : {y t : Text} → AreAlike (rules_of s.tree) (IsNameOfType s terms nodes) y t → (n : ℕ) → slice_get k.made.more.texts n ≡ Some y → (i : ℕ) × (slice_get k.made.more.texts i ≡ Some t) × AreAlikeIn x n i
+  alike_in {y = y} itself n e = (n, e, number_itself (k.made.names n y e))
+  alike_in (alone {t = t} {at = at} {m = y} h name g) n e =
+      let w = member_in the_rule t at (plain y) name h in
+      let own = plain_there k.made.more w.1 y w.5 in
+      let rest = alike_in g n e in
+      let in_rule = body_in w.0 at.rule h.rule (plain_name rest.0) (plain (name_in h.rule)) the_rule w.3 h.there (ap (option_map (called false)) rest.1) (refl, refl) w.4 in
+      (w.1.number, own.1, numbers_alone (known_name w.1 (plain y) w.5) (subst (λ (z : NameAt). IsMember x z w.0) own.0 w.2) in_rule rest.2)
+
+  -- an entry in the brackets of a rule, whose name what was found has after `~`
+  entry_unwrapped_at : (around a : PieceAt) (j i : ℕ) → IsUnwrappedNumbers x around j i a → IsEntryUnwrapped (rules_of s.tree) (IsNameOfType s terms nodes) (spot around) j i (spot a)
+  entry_unwrapped_at around a j i h = by st.piece st.is.around st.is.entry (stands a st) refl
+    where
+      st : IsThere closed k.made.more (rules_of s.tree) a
+      st = k.made.pieces.each a h.is.contained
+
+      number : slice_get k.made.more.texts h.is.name ≡ Some (name_in st.rule)
+      number = ap (slice_get k.made.more.texts) (sym h.is.body.rule.same) ∙ (rule_there a.rule h.is.name h.is.body.rule st.rule st.there).number
+
+      like : (y : Text) × (slice_get k.made.more.texts h.called ≡ Some y) × AreAlike (rules_of s.tree) (IsNameOfType s terms nodes) y (name_in st.rule)
+      like = alike_at h.is.alike (name_in st.rule) number
+
+      by : (p : Piece) → AreRoundIt p a.around → MayBeIn p a.entry → (there : Stands (rules_of s.tree) (IsNameOfType s terms nodes) p (spot a)) → there.rule ≡ st.rule → IsEntryUnwrapped (rules_of s.tree) (IsNameOfType s terms nodes) (spot around) j i (spot a)
+      by (an_entry r l z e) b g there is =
+          let same : h.is.is.entry ≡ g.0 = same_some (sym h.is.is.there ∙ g.1) in
+          let alternative : l ≡ j = sym g.2.alternative ∙ ap (λ (b : EntryAt). b.alternative) (sym same) ∙ h.is.is.same_alternative in
+          let place : z ≡ i = sym g.2.place ∙ ap (λ (b : EntryAt). b.place) (sym same) ∙ h.is.is.same_place in
+          record {
+            called = like.0;
+            is_called = ap (text_at k.made.more) h.is_called ∙ ap (option_map (called true)) like.1;
+            name = name_in st.rule;
+            alike = like.2;
+            round = r;
+            inner = e;
+            stands = record {
+              rule = st.rule;
+              there = st.there;
+              contained = subst (λ (w : ℕ). Contains (in_rule st.rule) (an_entry r j w e)) place (subst (λ (w : ℕ). Contains (in_rule st.rule) (an_entry r w z e)) alternative (subst (λ (q : S.Rule). Contains (in_rule q) (an_entry r l z e)) is there.contained));
+              span = there.span;
+              name = there.name;
+            };
+            stands_for = stands_for a (unwrapped_name h.is.name) st r h.is.body b;
+          }
+      by (a_type z) b g there is = absurd (some_none (sym h.is.is.there ∙ g))
+      by (a_word w) b g there is = absurd (some_none (sym h.is.is.there ∙ g))
+      by (a_key r q) b g there is = absurd (some_none (sym h.is.is.there ∙ g))
+      by (a_value r q z) b g there is = absurd (some_none (sym h.is.is.there ∙ g))
+      by (a_member r z) b g there is = absurd (some_none (sym h.is.is.there ∙ g))
+
+  entry_unwrapped_in : (around : PieceAt) (j i : ℕ) (at : Spot) → IsEntryUnwrapped (rules_of s.tree) (IsNameOfType s terms nodes) (spot around) j i at → (a : PieceAt) × IsUnwrappedNumbers x around j i a
+  entry_unwrapped_in around j i at h =
+      let w = piece_there (an_entry h.round j i h.inner) at h.stands in
+      let g = w.3.entry in
+      let m = number_there k.made.more around.name (unwrapped h.called) h.is_called in
+      let its_name = unwrapped_there k.made.more m.0 h.called m.2 in
+      let like = alike_in h.alike m.0.number its_name.1 in (
+        w.0,
+        record {
+          called = m.0.number;
+          is_called = m.1 ∙ ap Some its_name.0;
+          is = record {
+            contained = w.1;
+            name = like.0;
+            alike = like.2;
+            body = body_in w.0 at.rule h.stands.rule (unwrapped_name like.0) (unwrapped h.name) h.round (ap (λ (z : Spot). z.rule) w.2) h.stands.there (ap (option_map (called true)) like.1) h.stands_for w.3.around;
+            is = record { entry = g.0; there = g.1; same_alternative = g.2.alternative; same_place = g.2.place };
+          };
+        },
+      )
+
+  entry_at : (from : Option PieceAt) (j i : ℕ) (a : PieceAt) → IsEntryOf x from j i a → IsEntryAt (rules_of s.tree) (IsNameOfType s terms nodes) (option_map spot from) j i (spot a)
+  entry_at from j i a (by_brackets {around = b} h) = within (entry_within_at b a j i h)
+  entry_at from j i a (by_name {around = b} h) = named (entry_named_at b a j i h)
+  entry_at from j i a (by_unwrapped {around = b} h) = by_unwrapping (entry_unwrapped_at b a j i h)
 
   around_in : (from : Option PieceAt) (around : Spot) → option_map spot from ≡ Some around → (b : PieceAt) × (from ≡ Some b) × (spot b ≡ around)
   around_in None around e = cc
@@ -465,68 +596,10 @@ module _ (s : Sense) (terms : Table) (nodes : Nodes) (x : TypesInText) (closed :
           let b = around_in from z e in
           let w = entry_named_in b.0 j i at (subst (λ (v : Spot). IsEntryNamed (rules_of s.tree) (IsNameOfType s terms nodes) v j i at) (sym b.2) h) in
           (w.0, subst (λ (f : Option PieceAt). IsEntryOf x f j i w.0) (sym b.1) (by_name w.1))
-
-  -- a rule has the number of its name
-  rule_number : (i j n : ℕ) (y : Text) (r : S.Rule) → i ≡ j → slice_get (rules_of s.tree) j ≡ Some r → name_in r ≡ y → slice_get k.made.more.texts n ≡ Some y → HasNumber x i n
-  rule_number i j n y r same there f e =
-      let ra = k.made.rules.all j r there in
-      let told = k.made.rules.told j ra.0 ra.1 in
-      let is : told.0 ≡ r = one_of (slice_get (rules_of s.tree) j) told.0 r told.1 there in
-      record { at = ra.0; there = ap (slice_get x.rules.items) same ∙ ra.1; same = k.made.distinct ra.0.number n y (told.2.number ∙ ap Some (ap name_in is ∙ f)) e }
-
-  body_name : (a : PieceAt) (n : ℕ) (st : IsThere closed k.made.more (rules_of s.tree) a) → HasNumber x a.rule n → slice_get k.made.more.texts n ≡ Some (name_in st.rule)
-  body_name a n st h =
-      let told = k.made.rules.told a.rule h.at h.there in
-      let is : told.0 ≡ st.rule = one_of (slice_get (rules_of s.tree) a.rule) told.0 st.rule told.1 st.there in
-      ap (slice_get k.made.more.texts) (sym h.same) ∙ told.2.number ∙ ap Some (ap name_in is)
-
-  -- the names of the groups whose entries are a map's
-
-  member_of : (n : ℕ) (y : Text) (a : PieceAt) → slice_get k.made.more.texts n ≡ Some y → IsMember x n a → (st : IsThere closed k.made.more (rules_of s.tree) a) → (r : Around) × (t : S.Types) × (st.piece ≡ a_member r t) × AreRound r a.around
-  member_of n y a e m st = by st.piece refl st.is.entry st.is.around (sym (name_there_is (name_there st.piece) a.name st.is.name) ∙ ap (text_at k.made.more) m.name ∙ e)
-    where
-      by : (p : Piece) → st.piece ≡ p → MayBeIn p a.entry → AreRoundIt p a.around → name_there p ≡ Some y → (r : Around) × (t : S.Types) × (st.piece ≡ a_member r t) × AreRound r a.around
-      by (a_member r t) is g b f = (r, t, is, b)
-      by (an_entry r j i z) is g b f = absurd (some_none (sym g.1 ∙ m.alone))
-      by (a_type z) is g b f = cc
-      by (a_word w) is g b f = cc
-      by (a_key r q) is g b f = cc
-      by (a_value r q z) is g b f = cc
-
-  member_stands : (a : PieceAt) (st : IsThere closed k.made.more (rules_of s.tree) a) (p : Piece) → st.piece ≡ p → (h : Stands (rules_of s.tree) (IsNameOfType s terms nodes) p (spot a)) × (h.rule ≡ st.rule)
-  member_stands a st p e = subst (λ (q : Piece). (h : Stands (rules_of s.tree) (IsNameOfType s terms nodes) q (spot a)) × (h.rule ≡ st.rule)) e (stands a st, refl)
-
-  body_spliced : (map a : PieceAt) (y : Text) (st : IsThere closed k.made.more (rules_of s.tree) a) (r : Around) (t : S.Types) → st.piece ≡ a_member r t → (spot a).name ≡ Some y → AreRound r a.around → a.around ≡ None → IsSpliced (rules_of s.tree) (IsNameOfType s terms nodes) (spot map) (name_in st.rule) → IsSpliced (rules_of s.tree) (IsNameOfType s terms nodes) (spot map) y
-  body_spliced map a y st (brackets o c) t is name round none rest = absurd (some_none (sym round.1 ∙ none))
-  body_spliced map a y st the_rule t is name round none rest =
-      let h = member_stands a st (a_member the_rule t) is in
-      named_in_group h.0 name (subst (λ (r : S.Rule). IsSpliced (rules_of s.tree) (IsNameOfType s terms nodes) (spot map) (name_in r)) (sym h.1) rest)
-
-  spliced_at : (map : PieceAt) {n : ℕ} → IsSplicedIn x map n → (y : Text) → slice_get k.made.more.texts n ≡ Some y → IsSpliced (rules_of s.tree) (IsNameOfType s terms nodes) (spot map) y
-  spliced_at map (numbered_in_map {n = n} {a = a} known m b) y e =
-      let st = k.made.pieces.each a m.contained in
-      let w = member_of n y a e m st in
-      let h = member_stands a st (a_member w.0 w.1) w.2 in
-      named_in_map h.0 (ap (text_at k.made.more) m.name ∙ e) b.0 (round_ends map w.0 a.around w.3 b.1)
-  spliced_at map (numbered_in_group {n = n} {m = j} {a = a} known m b g) y e =
-      let st = k.made.pieces.each a m.contained in
-      let w = member_of n y a e m st in
-      body_spliced map a y st w.0 w.1 w.2 (ap (text_at k.made.more) m.name ∙ e) w.3 b.0 (spliced_at map g (name_in st.rule) (body_name a j st b.1))
-
-  member_in : (r : Around) (t : S.Types) (at : Spot) (y : Text) → at.name ≡ Some y → (h : Stands (rules_of s.tree) (IsNameOfType s terms nodes) (a_member r t) at) → (a : PieceAt) × (n : ℕ) × IsMember x n a × (a.rule ≡ at.rule) × AreRound r a.around × (slice_get k.made.more.texts n ≡ Some y)
-  member_in r t at y name h =
-      let w = piece_there (a_member r t) at h in
-      let g : IsNumberOf k.made.more (Some y) w.0.name = subst (λ (o : Option Text). IsNumberOf k.made.more o w.0.name) (sym h.name ∙ name) w.3.name in
-      (w.0, g.0, record { contained = w.1; alone = w.3.entry; name = g.1 }, ap (λ (z : Spot). z.rule) w.2, w.3.around, g.2)
-
-  spliced_in : (map : PieceAt) {y : Text} → IsSpliced (rules_of s.tree) (IsNameOfType s terms nodes) (spot map) y → (n : ℕ) × (slice_get k.made.more.texts n ≡ Some y) × IsSplicedIn x map n
-  spliced_in map (named_in_map {a = r} {t = t} {at = at} {n = y} h name rule ends) =
-      let w = member_in r t at y name h in
-      (w.1, w.5, numbered_in_map (k.made.names w.1 y w.5) w.2 (w.3 ∙ rule, ends_round map r w.0.around ends w.4))
-  spliced_in map (named_in_group {t = t} {at = at} {n = y} h name g) =
-      let w = member_in the_rule t at y name h in
-      let m = spliced_in map g in
-      (w.1, w.5, numbered_in_group (k.made.names w.1 y w.5) w.2 (w.4, rule_number w.0.rule at.rule m.0 (name_in h.rule) h.rule w.3 h.there refl m.1) m.2)
+      by o e j i at (by_unwrapping {around = z} h) =
+          let b = around_in from z e in
+          let w = entry_unwrapped_in b.0 j i at (subst (λ (v : Spot). IsEntryUnwrapped (rules_of s.tree) (IsNameOfType s terms nodes) v j i at) (sym b.2) h) in
+          (w.0, subst (λ (f : Option PieceAt). IsEntryOf x f j i w.0) (sym b.1) (by_unwrapped w.1))
 
   -- The rules of a name, by the number of the name.
   module _ (n : ℕ) (y : Text) (e : slice_get k.made.more.texts n ≡ Some y) where
@@ -540,22 +613,21 @@ module _ (s : Sense) (terms : Table) (nodes : Nodes) (x : TypesInText) (closed :
     type_at : (from : Option PieceAt) (m : Link) (a : PieceAt) → IsTypeIn x n from m a → IsTypeAt (rules_of s.tree) (IsNameOfType s terms nodes) closed y (option_map spot from) m (spot a)
     type_at from m a h =
         let st = k.made.pieces.each a h.is.contained in
-        record { piece = st.piece; stands = stands_at from a h.inside st; is = named_piece (spot a) st.rule st.there st.piece h.origin m h.there (origin_of st.piece a.origin h.origin st.is.origin h.is.same) }
+        record { piece = st.piece; stands = stands_at from a h.inside st; is = named_piece (spot a) st.rule st.there st.piece h.origin m h.there (origin_of k.made.more st.piece a.origin h.origin st.is.origin h.is.same) }
 
     stands_in : (from : Option PieceAt) (a : PieceAt) → IsInMapFrom x n from a → (st : IsThere closed k.made.more (rules_of s.tree) a) (r : Around) → AreRound r a.around → StandsIn (rules_of s.tree) (IsNameOfType s terms nodes) y (option_map spot from) r st.piece (spot a)
     stands_in None a h st r b = let w = stands_at None a h st in in_a_rule w.0 w.1
-    stands_in (Some o) a (in_its_brackets h) st r b = in_map (stands a st) h.0 (round_ends o r a.around b h.1)
-    stands_in (Some o) a (in_its_group {n = m} h g) st (brackets l c) b = absurd (some_none (sym b.1 ∙ h.0))
-    stands_in (Some o) a (in_its_group {n = m} h g) st the_rule b = in_group (stands a st) (spliced_at o g (name_in st.rule) (body_name a m st h.1))
+    stands_in (Some o) a (in_its_brackets h) st r b = in_map (stands a st) h.0 (round_ends o.span r a.around b h.1)
+    stands_in (Some o) a (in_its_group {n = m} h g) st r b = in_group (stands a st) (spliced_at o g (called m.is_unwrapped (name_in st.rule)) (body_called a m st h)) (stands_for a m st r h b)
 
     value_at : (from : Option PieceAt) (key m : Link) (a : PieceAt) → IsValueIn x n from key m a → IsValueAt (rules_of s.tree) (IsNameOfType s terms nodes) closed y (option_map spot from) key m (spot a)
-    value_at from key m a h = by st.piece st.is.key st.is.around (stands_in from a h.inside st) (named_piece (spot a) st.rule st.there st.piece h.origin m h.there (origin_of st.piece a.origin h.origin st.is.origin h.is.same))
+    value_at from key m a h = by st.piece st.is.key st.is.around (stands_in from a h.inside st) (named_piece (spot a) st.rule st.there st.piece h.origin m h.there (origin_of k.made.more st.piece a.origin h.origin st.is.origin h.is.same))
       where
         st : IsThere closed k.made.more (rules_of s.tree) a
         st = k.made.pieces.each a h.is.contained
 
         by : (p : Piece) → IsClosedKey (closed st.rule) k.made.more p a.key → AreRoundIt p a.around → ((r : Around) → AreRound r a.around → StandsIn (rules_of s.tree) (IsNameOfType s terms nodes) y (option_map spot from) r p (spot a)) → IsOf (rules_of s.tree) (IsNameOfType s terms nodes) closed (spot a) p m → IsValueAt (rules_of s.tree) (IsNameOfType s terms nodes) closed y (option_map spot from) key m (spot a)
-        by (a_value r q z) g b there is = record { around = r; key_piece = q; types = z; stands = there r b; is_key = named_piece (spot a) st.rule st.there q h.key_origin key h.key_there (origin_of q a.key h.key_origin g h.same); is = is }
+        by (a_value r q z) g b there is = record { around = r; key_piece = q; types = z; stands = there r b; is_key = named_piece (spot a) st.rule st.there q h.key_origin key h.key_there (origin_of k.made.more q a.key h.key_origin g h.same); is = is }
         by (a_type z) g b there is = absurd (some_none (sym h.same ∙ g))
         by (a_word w) g b there is = absurd (some_none (sym h.same ∙ g))
         by (a_key r q) g b there is = absurd (no_some is.3)
@@ -569,7 +641,7 @@ module _ (s : Sense) (terms : Table) (nodes : Nodes) (x : TypesInText) (closed :
         st = k.made.pieces.each a h.is.contained
 
         by : (p : Piece) → MayBeClosed (closed st.rule) k.made.more p a.origin → IsClosedKey (closed st.rule) k.made.more p a.key → AreRoundIt p a.around → ((r : Around) → AreRound r a.around → StandsIn (rules_of s.tree) (IsNameOfType s terms nodes) y (option_map spot from) r p (spot a)) → IsKeyAt (rules_of s.tree) (IsNameOfType s terms nodes) closed y (option_map spot from) key (spot a)
-        by (a_key r q) d g b there = record { around = r; key_piece = q; stands = there r b; is = named_piece (spot a) st.rule st.there q h.origin (L.Type key) h.there (origin_of q a.key h.origin g h.is.same) }
+        by (a_key r q) d g b there = record { around = r; key_piece = q; stands = there r b; is = named_piece (spot a) st.rule st.there q h.origin (L.Type key) h.there (origin_of k.made.more q a.key h.origin g h.is.same) }
         by (a_value r q z) d g b there = absurd (value_is_of d h.is.alone r q z refl)
         by (a_type z) d g b there = absurd (some_none (sym h.is.same ∙ g))
         by (a_word w) d g b there = absurd (some_none (sym h.is.same ∙ g))
@@ -605,11 +677,11 @@ module _ (s : Sense) (terms : Table) (nodes : Nodes) (x : TypesInText) (closed :
     found_in None r p at round (in_a_rule h g) = found_at None p at (h, g)
     found_in (Some o) r p at round (in_map h rule ends) =
         let w = piece_there p at h in
-        (w.0, w.1, in_its_brackets (ap (λ (z : Spot). z.rule) w.2 ∙ rule, ends_round o r w.0.around ends (round w.0.around w.3.around)), h.rule, h.there, w.3)
-    found_in (Some o) r p at round (in_group h g) =
+        (w.0, w.1, in_its_brackets (ap (λ (z : Spot). z.rule) w.2 ∙ rule, ends_round o.span r w.0.around ends (round w.0.around w.3.around)), h.rule, h.there, w.3)
+    found_in (Some o) r p at round (in_group {m = z} h g for) =
         let w = piece_there p at h in
         let m = spliced_in o g in
-        (w.0, w.1, in_its_group (round w.0.around w.3.around, rule_number w.0.rule at.rule m.0 (name_in h.rule) h.rule (ap (λ (z : Spot). z.rule) w.2) h.there refl m.1) m.2, h.rule, h.there, w.3)
+        (w.0, w.1, in_its_group (body_in w.0 at.rule h.rule m.0 z r (ap (λ (v : Spot). v.rule) w.2) h.there m.1 for (round w.0.around w.3.around)) m.2, h.rule, h.there, w.3)
 
     value_in : (from : Option PieceAt) (key m : Link) (at : Spot) → IsValueAt (rules_of s.tree) (IsNameOfType s terms nodes) closed y (option_map spot from) key m at → (a : PieceAt) × IsValueIn x n from key m a
     value_in from key m at h =
@@ -623,7 +695,7 @@ module _ (s : Sense) (terms : Table) (nodes : Nodes) (x : TypesInText) (closed :
     key_in from key at h =
         let w = found_in from h.around (a_key h.around h.key_piece) at (λ m b. b) h.stands in
         let u = type_origin at w.3 w.4 h.key_piece (L.Type key) h.is w.0.key w.5.key in
-        (w.0, record { origin = u.0; there = u.1; is = record { contained = w.1; alone = place_alone w.5.origin refl; same = u.2 }; inside = w.2 })
+        (w.0, record { origin = u.0; there = u.1; is = record { contained = w.1; alone = place_alone k.made.more w.5.origin refl; same = u.2 }; inside = w.2 })
 
     one_in : (from : Option PieceAt) (m : Link) (at : Spot) → IsOneAt (rules_of s.tree) (IsNameOfType s terms nodes) closed y (option_map spot from) m at → (a : PieceAt) × IsOneIn x n from m a
     one_in from m at (of_one_type t) = let w = type_in from m at t in (w.0, by_type w.1)
@@ -646,85 +718,22 @@ module _ (s : Sense) (terms : Table) (nodes : Nodes) (x : TypesInText) (closed :
 
   -- How what was found is told.
 
-  -- the name that an origin stands for
-  pub data IsNameOf : TypeOrigin → TypeName → Type 0 where
-    row_name : {n : ℕ} {t : Term} → IsTerm k.made.more n t → IsNameOf (T.Row n) (type t)
-    word_name : {n : ℕ} {y : Text} → slice_get k.made.more.texts n ≡ Some y → IsNameOf (T.Word n) (word y)
-
-  one_name : {u : TypeOrigin} {y z : TypeName} → IsNameOf u y → IsNameOf u z → y ≡ z
-  one_name (row_name {n = n} {t = a} g) (row_name {t = b} h) = ap type (k.made.one_term n a b g h)
-  one_name (word_name {n = n} {y = a} g) (word_name {y = b} h) = ap word (one_of (slice_get k.made.more.texts n) a b g h)
-
-  one_origin : {u v : TypeOrigin} {y : TypeName} → IsNameOf u y → IsNameOf v y → u ≡ v
-  one_origin (row_name {n = n} {t = a} g) (row_name {n = m} h) = ap T.Row (k.made.one_row n m a g h)
-  one_origin (word_name {n = n} {y = a} g) (word_name {n = m} h) = ap T.Word (k.made.distinct n m a g h)
-
-  piece_name : {f : Term → Term} {p : Piece} {u : TypeOrigin} → IsClosedOrigin f k.made.more p u → (y : TypeName) × (name_of_piece f p ≡ Some y) × IsNameOf u y
-  piece_name {f = f} (of_type {x = z} h) = (type (f (term_of z)), refl, row_name h)
-  piece_name (of_token {w = w} h) = (word (text_of w), refl, word_name h)
-  piece_name {f = f} (of_keyed {x = z} h) = (type (f (term_of z)), refl, row_name h)
-
-  -- what may be of something is of what its name says
-  may_name : {f : Term → Term} {p : Piece} {o : Option TypeOrigin} → MayBeClosed f k.made.more p o → (y : TypeName) → name_of_piece f p ≡ Some y → (u : TypeOrigin) × (o ≡ Some u) × IsNameOf u y
-  may_name (is_of {u = u} h) y e = let w = piece_name h in (u, refl, subst (IsNameOf u) (same_some (sym w.1 ∙ e)) w.2)
-  may_name no_type y e = cc
-  may_name may_be_group y e = cc
-  may_name in_its_place y e = cc
-
-  told_with : {f : Term → Term} (p : Piece) (a : PieceAt) → MayBeClosed f k.made.more p a.origin → IsClosedKey f k.made.more p a.key → (y : TypeName) → told_name f p ≡ Some y → (u : TypeOrigin) × (told_origin a ≡ Some u) × IsNameOf u y
-  told_with (a_key r q) a d g y e =
-      let w = may_name g y e in
-      (w.0, ap (λ (o : Option TypeOrigin). or_else o a.key) (place_alone d refl) ∙ w.1, w.2)
-  told_with (a_type z) a d g y e = let w = may_name d y e in (w.0, ap (λ (o : Option TypeOrigin). or_else o a.key) w.1, w.2)
-  told_with (a_word z) a d g y e = let w = may_name d y e in (w.0, ap (λ (o : Option TypeOrigin). or_else o a.key) w.1, w.2)
-  told_with (a_value r q z) a d g y e = let w = may_name d y e in (w.0, ap (λ (o : Option TypeOrigin). or_else o a.key) w.1, w.2)
-  told_with (a_member r z) a d g y e = cc
-  told_with (an_entry r j i z) a d g y e = cc
-
-  -- where nothing is told of it, it is of nothing
-
-  may_none : {f : Term → Term} {p : Piece} {o : Option TypeOrigin} → MayBeClosed f k.made.more p o → name_of_piece f p ≡ None → o ≡ None
-  may_none (is_of h) e = let w = piece_name h in absurd (some_none (sym w.1 ∙ e))
-  may_none no_type e = refl
-  may_none may_be_group e = refl
-  may_none in_its_place e = refl
-
-  both_none : (a : PieceAt) → a.origin ≡ None → a.key ≡ None → told_origin a ≡ None
-  both_none a e f = ap (λ (o : Option TypeOrigin). or_else o a.key) e ∙ f
-
-  told_none : {f : Term → Term} (p : Piece) (a : PieceAt) → MayBeClosed f k.made.more p a.origin → IsClosedKey f k.made.more p a.key → told_name f p ≡ None → told_origin a ≡ None
-  told_none (a_key r q) a d g e = both_none a (place_alone d refl) (may_none g e)
-  told_none (a_type z) a d g e = cc
-  told_none (a_word z) a d g e = cc
-  told_none (a_value r q z) a d g e = cc
-  told_none (a_member r z) a d g e = both_none a (may_none d refl) g
-  told_none (an_entry r j i z) a d g e = both_none a (may_none d refl) g
-
-  told_by : {f : Term → Term} (p : Piece) (a : PieceAt) → MayBeClosed f k.made.more p a.origin → IsClosedKey f k.made.more p a.key → (u : TypeOrigin) → told_origin a ≡ Some u → (y : TypeName) × (told_name f p ≡ Some y) × IsNameOf u y
-  told_by {f = f} p a d g u e = by (told_name f p) refl
-    where
-      by : (o : Option TypeName) → told_name f p ≡ o → (y : TypeName) × (told_name f p ≡ Some y) × IsNameOf u y
-      by None h = absurd (some_none (sym e ∙ told_none p a d g h))
-      by (Some y) h =
-          let w = told_with p a d g y h in
-          (y, h, subst (λ (v : TypeOrigin). IsNameOf v y) (same_some (sym w.1 ∙ e)) w.2)
-
   pub written_at : (n : ℕ) (y : Text) → slice_get k.made.more.texts n ≡ Some y → (a : PieceAt) (st : IsThere closed k.made.more (rules_of s.tree) a) (w : Span) → IsWrittenIn x n (told_origin a) a.span w → IsWritten (rules_of s.tree) (IsNameOfType s terms nodes) closed y x.filled (told_name (closed st.rule) st.piece) a.span w
   written_at n y e a st w (by_another {b = b} {u = u} filled told h) =
       let at = k.made.pieces.each b h.is.contained in
-      let name = told_by st.piece a st.is.origin st.is.key u told in
-      let own = piece_name (origin_of at.piece b.origin u at.is.origin h.is.same) in
-      in_another filled name.1 (stands b at) (λ g. h.other (rule_number b.rule b.rule n y at.rule refl at.there g e)) (own.1 ∙ ap Some (one_name own.2 name.2))
+      let name = told_by k.made.more st.piece a st.is.origin st.is.key u told in
+      let own = piece_name k.made.more (origin_of k.made.more at.piece b.origin u at.is.origin h.is.same) in
+      in_another filled name.1 (stands b at) (λ g. h.other (rule_number b.rule b.rule n y at.rule refl at.there g e)) (own.1 ∙ ap Some (one_name k.made.more k.made.distinct k.made.one_term k.made.one_row own.2 name.2))
   written_at n y e a st w (by_itself none) =
       as_it_is
       (λ filled p at z named h other is.
       let b = piece_there p at h in
-      let told = told_with st.piece a st.is.origin st.is.key z named in
-      let own = may_name b.3.origin z is in
+      let told = told_with k.made.more st.piece a st.is.origin st.is.key z named in
+      let own = may_name k.made.more b.3.origin z is in
       let rule : b.0.rule ≡ at.rule = ap (λ (v : Spot). v.rule) b.2 in
       none filled b.0 told.0 told.1
       (record {
-        is = record { contained = b.1; same = own.1 ∙ ap Some (one_origin own.2 told.2) };
+        is = record { contained = b.1; same = own.1 ∙ ap Some (one_origin k.made.more k.made.distinct k.made.one_term k.made.one_row own.2 told.2) };
         other = λ g. let r = named_rule b.0.rule n y g e in other (ap name_in (one_of (slice_get (rules_of s.tree) at.rule) h.rule r.0 h.there (ap (slice_get (rules_of s.tree)) (sym rule) ∙ r.1)) ∙ r.3);
       }))
 

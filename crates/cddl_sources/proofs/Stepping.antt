@@ -1,5 +1,5 @@
 -- What one link more leads to.
-use Rattle.std.proofs.Common.{◌≡◌, ◌⊎◌, ◌+◌, ◌-◌, ◌<◌, inl, inr, ℕ, zero, suc, ◌≤◌, drop, length, take, get_or, arith, Bool, true, false, List, [], ◌∷◌, ◌++◌, Option, Some, None, IfNone, IfOk, IfSome, Result, Ok, Err, slice_get, refl, sym, ap, subst, ◌∙◌, append_assoc}
+use Rattle.std.proofs.Common.{◌≡◌, ◌⊎◌, ◌+◌, ◌-◌, ◌<◌, inl, inr, ℕ, zero, suc, ◌≤◌, drop, length, take, get_or, arith, Bool, true, false, true≢false, List, [], ◌∷◌, ◌++◌, Option, Some, None, IfNone, IfOk, IfSome, Result, Ok, Err, slice_get, refl, sym, ap, subst, ◌∙◌, append_assoc}
 use Rattle.std.specs.List.{Contains}
 use Rattle.std.proofs.lemmas.List.{append-nil, take_more}
 use Rattle.std.proofs.lemmas.List.Elements.{Contains-append_left, Contains-push_cases}
@@ -9,7 +9,8 @@ use Rattle.table_making.specs.declared.origin.TypeOrigin.TheVariants as T
 use Rattle.table_nodes.specs.declared.nodes.TypeId.{TypeId}
 use Rattle.type_links.specs.declared.link.Link.{Link}
 use Rattle.type_links.specs.declared.link.Link.TheVariants as L
-use Rattle.cddl_sources.specs.States.{ArePairIn, ArePassed, HasNoRule, HasNumber, IsAlternative, IsEntryNamed, IsEntryOf, IsEntryOfRule, IsEntryWithin, IsFoundAfter, IsFrom, IsKeyIn, IsKeyPlace, IsOneIn, IsRuleIn, IsOfOrigin, IsStarted, IsStateAfter, IsStateOf, IsTypeIn, IsInMapFrom, IsValueIn, LeadsIn, arrives, count_in, counted, named, of_entry, of_key, of_type, of_value, origin_at, passes, to_one, to_pair, in_its_group, in_its_brackets, with_held, within}
+use Rattle.cddl_sources.specs.States.{AreNoEntry, ArePairIn, ArePassed, HasNoRule, HasNumber, IsAlternative, IsEntryInBody, IsEntryNamed, IsEntryOf, IsEntryOfName, IsEntryOfRule, IsEntryUnwrapped, IsEntryWithin, IsFoundAfter, IsFrom, IsKeyIn, IsKeyPlace, IsOneIn, IsRuleIn, IsOfOrigin, IsStarted, IsStateAfter, IsStateOf, IsTypeIn, IsInMapFrom, IsValueIn, LeadsIn, arrives, by_unwrapping, count_in, counted, named, of_entry, of_key, of_type, of_value, origin_at, passes, plain_name, to_one, to_pair, in_its_group, in_its_brackets, unwrapped_name, with_held, within}
+use Rattle.cddl_sources.specs.declared.piece.NameAt.{NameAt}
 use Rattle.cddl_sources.specs.declared.piece.PieceAt.{PieceAt}
 use Rattle.cddl_sources.specs.declared.place.State.{State}
 use Rattle.cddl_sources.specs.declared.sources.RuleAt.{RuleAt}
@@ -105,7 +106,7 @@ from_rule x n (Some o) a h g = (g.0, ap (slice_get x.rules.items) h.0 ∙ g.1)
 map_rule : (x : TypesInText) (n : ℕ) (from : Option PieceAt) (a : PieceAt) → IsInMapFrom x n from a → IfSome from (λ b. IsRuleIn x b.rule) → IsRuleIn x a.rule
 map_rule x n None a h g = (h.at, h.there)
 map_rule x n (Some o) a (in_its_brackets h) g = (g.0, ap (slice_get x.rules.items) h.0 ∙ g.1)
-map_rule x n (Some o) a (in_its_group h s) g = (h.1.at, h.1.there)
+map_rule x n (Some o) a (in_its_group h s) g = (h.rule.at, h.rule.there)
 
 counted_rule : (x : TypesInText) (n own i : ℕ) → own < count_in n (slice_get x.rules.items i) → IsRuleIn x i
 counted_rule x n own i h = by (slice_get x.rules.items i) refl h
@@ -116,7 +117,8 @@ counted_rule x n own i h = by (slice_get x.rules.items i) refl h
 
 entry_rule : (x : TypesInText) {from : Option PieceAt} {k i : ℕ} {a : PieceAt} → IsEntryOf x from k i a → IfSome from (λ b. IsRuleIn x b.rule) → IsRuleIn x a.rule
 entry_rule x (within h) g = (g.0, ap (slice_get x.rules.items) h.rule ∙ g.1)
-entry_rule x {a = a} (named h) g = counted_rule x h.name h.own a.rule h.is_alternative.less
+entry_rule x {a = a} (named h) g = counted_rule x h.name h.is.own a.rule h.is.is_alternative.less
+entry_rule x (by_unwrapping h) g = (h.is.body.rule.at, h.is.body.rule.there)
 
 pair_rule : (x : TypesInText) (n : ℕ) {from : Option PieceAt} {first second : Link} {a : PieceAt} → ArePairIn x n from first second a → IfSome from (λ b. IsRuleIn x b.rule) → IsRuleIn x a.rule
 pair_rule x n (of_value v) g = map_rule x n _ _ v.inside g
@@ -141,7 +143,8 @@ found_there x n ids o l = found_from x n l tt
 pair_piece : (x : TypesInText) (n : ℕ) {from : Option PieceAt} {first second : Link} {a : PieceAt} → ArePairIn x n from first second a → Contains x.pieces.items a
 pair_piece x n (of_value v) = v.is.contained
 pair_piece x n (of_entry (within h)) = h.contained
-pair_piece x n (of_entry (named h)) = h.is.contained
+pair_piece x n (of_entry (named h)) = h.is.is.contained
+pair_piece x n (of_entry (by_unwrapping h)) = h.is.contained
 
 one_piece : (x : TypesInText) (n : ℕ) {from : Option PieceAt} {m : Link} {a : PieceAt} → IsOneIn x n from m a → Contains x.pieces.items a
 one_piece x n (of_type t) = t.is.contained
@@ -193,13 +196,15 @@ same_place e = cc
 pub any_entry : (x : TypesInText) (from : Option PieceAt) (around : PieceAt) (k i : ℕ) (a : PieceAt) → from ≡ Some around → IsEntryOf x (Some around) k i a → IsEntryOf x from k i a
 any_entry x from around k i a e h = subst (λ (o : Option PieceAt). IsEntryOf x o k i a) (sym e) h
 
-pub no_entry : (x : TypesInText) (from : Option PieceAt) (around : PieceAt) (k i : ℕ) (a : PieceAt) → from ≡ Some around → (IsEntryWithin x around k i a → ⊥) → (IsEntryNamed x around k i a → ⊥) → IsEntryOf x from k i a → ⊥
+pub no_entry : (x : TypesInText) (from : Option PieceAt) (around : PieceAt) (k i : ℕ) (a : PieceAt) → from ≡ Some around → (IsEntryWithin x around k i a → ⊥) → AreNoEntry x around k i a → IsEntryOf x from k i a → ⊥
 no_entry x from around k i a e none other (within {around = b} h) = none (subst (λ (c : PieceAt). IsEntryWithin x c k i a) (same_some e) h)
-no_entry x from around k i a e none other (named {around = b} h) = other (subst (λ (c : PieceAt). IsEntryNamed x c k i a) (same_some e) h)
+no_entry x from around k i a e none other (named {around = b} h) = other.0 (subst (λ (c : PieceAt). IsEntryNamed x c k i a) (same_some e) h)
+no_entry x from around k i a e none other (by_unwrapping {around = b} h) = other.1 (subst (λ (c : PieceAt). IsEntryUnwrapped x c k i a) (same_some e) h)
 
 pub no_entry_from : (x : TypesInText) (from : Option PieceAt) (k i : ℕ) (a : PieceAt) → from ≡ None → IsEntryOf x from k i a → ⊥
 no_entry_from x from k i a e (within h) = cc
 no_entry_from x from k i a e (named h) = cc
+no_entry_from x from k i a e (by_unwrapping h) = cc
 
 -- an alternative of a rule, of which there is one
 
@@ -265,11 +270,30 @@ pub counted_none : (n : ℕ) (rs : List RuleAt) → counted n (drop (length rs) 
 counted_none n [] = refl
 counted_none n (r ∷ rs) = counted_none n rs
 
-pub no_named : (x : TypesInText) (around : PieceAt) (n k i rule own : ℕ) (a : PieceAt) → around.name ≡ Some n → IsAlternative x n k rule own → ((b : PieceAt) → IsEntryOfRule x rule own i b → ⊥) → IsEntryNamed x around k i a → ⊥
-no_named x around n k i rule own a e f none h =
-    let name : h.name ≡ n = same_some (sym h.is_name ∙ e) in
-    let same = one_alternative x n k a.rule rule h.own own (subst (λ (m : ℕ). IsAlternative x m k a.rule h.own) name h.is_alternative) f in
+pub no_named : (x : TypesInText) (n k i rule own : ℕ) (a : PieceAt) → IsAlternative x n k rule own → ((b : PieceAt) → IsEntryOfRule x rule own i b → ⊥) → IsEntryOfName x n k i a → ⊥
+no_named x n k i rule own a f none h =
+    let same = one_alternative x n k a.rule rule h.own own h.is_alternative f in
     none a (subst (λ (r : ℕ). IsEntryOfRule x r own i a) same.0 (subst (λ (o : ℕ). IsEntryOfRule x a.rule o i a) same.1 h.is))
+
+-- an entry of the name that the other is, by the number of this name
+
+same_plain : {n m : ℕ} → Some (plain_name n) ≡ Some (plain_name m) → n ≡ m
+same_plain e = ap (λ (z : NameAt). z.number) (same_some e)
+
+same_unwrapped : {n m : ℕ} → Some (unwrapped_name n) ≡ Some (unwrapped_name m) → n ≡ m
+same_unwrapped e = ap (λ (z : NameAt). z.number) (same_some e)
+
+pub name_flag : (around : PieceAt) (n : NameAt) (b : Bool) → around.name ≡ Some n → n.is_unwrapped ≡ b → around.name ≡ Some (record { number = n.number; is_unwrapped = b })
+name_flag around n b e f = e ∙ ap (λ (c : Bool). Some (record { number = n.number; is_unwrapped = c })) f
+
+pub other_flag : {n m : ℕ} {o : Option NameAt} → o ≡ Some (plain_name n) → o ≡ Some (unwrapped_name m) → ⊥
+other_flag e f = true≢false (sym (ap (λ (z : NameAt). z.is_unwrapped) (same_some (sym e ∙ f))))
+
+pub by_number : (x : TypesInText) (around : PieceAt) (n k i : ℕ) (a : PieceAt) → around.name ≡ Some (plain_name n) → IsEntryNamed x around k i a → IsEntryOfName x n k i a
+by_number x around n k i a e h = subst (λ (m : ℕ). IsEntryOfName x m k i a) (same_plain (sym h.is_name ∙ e)) h.is
+
+pub unwrapped_number : (x : TypesInText) (around : PieceAt) (n k i : ℕ) (a : PieceAt) → around.name ≡ Some (unwrapped_name n) → IsEntryUnwrapped x around k i a → IsEntryInBody x n k i a
+unwrapped_number x around n k i a e h = subst (λ (m : ℕ). IsEntryInBody x m k i a) (same_unwrapped (sym h.is_called ∙ e)) h.is
 
 -- what two links lead to together, by the forms that they have
 

@@ -1,20 +1,21 @@
 -- The origins of types that stand in the text, by the numbers of a table of terms.
-use Rattle.std.specs.Prelude.{◌≡◌, ℕ, List, Contains, Option, Some, None, slice_get}
+use Rattle.std.specs.Prelude.{◌≡◌, ℕ, List, Contains, Option, Some, None, option_map, slice_get}
 use Rattle.cddl_token.specs.declared.Token.{Token}
 use Rattle.tree_nodes.specs.Syntax.Syntax as S
 use Rattle.tree_nodes.specs.declared.tree.Leaf.{Leaf}
 use Rattle.cddl_language.specs.Reading.{term_of, text_of}
-use Rattle.cddl_language.specs.Terms.{Term, Text}
+use Rattle.cddl_language.specs.Terms.{Term}
 use Rattle.check_terms.specs.Table.{Table}
 use Rattle.check_terms.specs.Trees.{IsTerm}
 use Rattle.table_making.specs.declared.origin.TypeOrigin.{TypeOrigin}
 use Rattle.table_making.specs.declared.origin.TypeOrigin.TheVariants as T
 use Rattle.cddl_sources.specs.Instances.{as_written}
-use Rattle.cddl_sources.specs.Pieces.{Around, Inner, Piece, a_key, a_member, a_type, a_value, a_word, an_entry, brackets, in_rule, name_there, the_rule, tokens_of_piece}
+use Rattle.cddl_sources.specs.Pieces.{Around, Called, Inner, Piece, a_key, a_member, a_type, a_value, a_word, an_entry, brackets, in_rule, name_there, the_rule, tokens_of_piece}
 use Rattle.cddl_sources.specs.Spans.{IsSpan}
-use Rattle.cddl_sources.specs.Walk.{view_found}
+use Rattle.cddl_sources.specs.Walk.{called, view_found}
 use Rattle.cddl_sources.specs.declared.node.Found.{Found}
 use Rattle.cddl_sources.specs.declared.piece.EntryAt.{EntryAt}
+use Rattle.cddl_sources.specs.declared.piece.NameAt.{NameAt}
 use Rattle.cddl_sources.specs.declared.piece.PieceAt.{PieceAt}
 use Rattle.cddl_sources.specs.declared.span.Span.{Span}
 
@@ -69,10 +70,14 @@ MayBeIn (a_key a k) m = m ≡ None
 MayBeIn (a_value a k x) m = m ≡ None
 MayBeIn (a_member a x) m = m ≡ None
 
--- the number of a name, if there is one
-abbrev pub IsNumberOf : Table → Option Text → Option ℕ → Type 0
+-- a name by its number
+abbrev pub called_in : Table → NameAt → Option Called
+called_in t n = option_map (called n.is_unwrapped) (slice_get t.texts n.number)
+
+-- it is that name, if there is one
+abbrev pub IsNumberOf : Table → Option Called → Option NameAt → Type 0
 IsNumberOf t None o = o ≡ None
-IsNumberOf t (Some y) o = (n : ℕ) × (o ≡ Some n) × (slice_get t.texts n ≡ Some y)
+IsNumberOf t (Some y) o = (n : NameAt) × (o ≡ Some n) × (called_in t n ≡ Some y)
 
 -- It is that piece.
 pub record IsClosedPiece (closed : Term → Term) (t : Table) (p : Piece) (a : PieceAt) : Type 0 where

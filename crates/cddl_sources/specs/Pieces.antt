@@ -191,15 +191,19 @@ abbrev mutual
   bare_type2 (S.simple_by o h c) = S.only (S.one (S.simple_by o h c))
   bare_type2 (S.hash t) = S.only (S.one (S.hash t))
 
--- The name that stands there alone as an entry, with arguments or without, if one does. It may be that of a group.
+-- What an entry is that is one name: this name, with arguments or without, which may be that of a group; or `~` and the name, which
+-- is what is in the brackets of that rule's type (section 3.7).
+pub data Called : Type 0 where
+  plain : Text → Called
+  unwrapped : Text → Called
 
-abbrev pub name_of_type2 : S.Type2 → Option Text
-name_of_type2 (S.typename r) = Some (ref_name r)
+abbrev pub name_of_type2 : S.Type2 → Option Called
+name_of_type2 (S.typename r) = Some (plain (ref_name r))
+name_of_type2 (S.unwrapped u r) = Some (unwrapped (ref_name r))
 name_of_type2 (S.literal v) = None
 name_of_type2 (S.parens o t c) = None
 name_of_type2 (S.map_of o g c) = None
 name_of_type2 (S.array_of o g c) = None
-name_of_type2 (S.unwrapped u r) = None
 name_of_type2 (S.choice_of a o g c) = None
 name_of_type2 (S.choice_of_name a r) = None
 name_of_type2 (S.tagged o t c) = None
@@ -207,15 +211,15 @@ name_of_type2 (S.tagged_by o h a p t c) = None
 name_of_type2 (S.simple_by o h c) = None
 name_of_type2 (S.hash t) = None
 
-abbrev pub name_of_type1 : S.Type1 → Option Text
+abbrev pub name_of_type1 : S.Type1 → Option Called
 name_of_type1 (S.one x) = name_of_type2 x
 name_of_type1 (S.operation x o y) = None
 
-abbrev pub name_of_types : S.Types → Option Text
+abbrev pub name_of_types : S.Types → Option Called
 name_of_types (S.only r) = name_of_type1 r
 name_of_types (S.or t s r) = None
 
-abbrev pub name_there : Piece → Option Text
+abbrev pub name_there : Piece → Option Called
 name_there (an_entry a k i (of_types t)) = name_of_types (bare_types t)
 name_there (an_entry a k i (of_group o g c)) = None
 name_there (a_type x) = None

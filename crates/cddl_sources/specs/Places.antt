@@ -9,7 +9,7 @@ use Rattle.table_nodes.specs.declared.nodes.TypeId.{TypeId}
 use Rattle.type_links.specs.declared.link.Link.{Link}
 use Rattle.type_links.specs.declared.link.Link.TheVariants as L
 use Rattle.cddl_sources.specs.Instances.{has_arguments, term_in}
-use Rattle.cddl_sources.specs.Pieces.{Around, Inner, Piece, a_key, a_member, a_value, alternatives_of, an_entry, brackets, in_rule, name_of_piece, name_there, the_rule, told_name, tokens_of_piece}
+use Rattle.cddl_sources.specs.Pieces.{Around, Called, Inner, Piece, a_key, a_member, a_value, alternatives_of, an_entry, brackets, in_rule, name_of_piece, name_there, plain, the_rule, told_name, tokens_of_piece, unwrapped}
 use Rattle.cddl_sources.specs.Spans.{IsNameSpan, IsSpan, IsWithin, Spot, body_tokens}
 use Rattle.cddl_sources.specs.declared.place.Place.{Place}
 use Rattle.cddl_sources.specs.declared.span.Span.{Span}
@@ -22,8 +22,20 @@ LeadsTo names y (L.Entry k) = ⊥
 LeadsTo names y (L.Key m) = ⊥
 
 -- what is round a group are the ends of this part of the text
-pub data AreEnds (o : Spot) : Around → Type 0 where
-  are_ends : {opening closing : Token} → o.span.first ≡ opening.start → o.span.end ≡ closing.end → AreEnds o (brackets opening closing)
+pub data AreEnds (s : Span) : Around → Type 0 where
+  are_ends : {opening closing : Token} → s.first ≡ opening.start → s.end ≡ closing.end → AreEnds s (brackets opening closing)
+
+-- they are the ends of the rule's body
+pub record IsBody (r : S.Rule) (a : Around) : Type 0 where
+  pub span : Span
+  pub is : IsSpan (body_tokens r) span
+  pub ends : AreEnds span a
+
+-- A group with this round it in the rule is what the name stands for: as that of a group, the body of the rule; after `~`, the group in
+-- the brackets of its type.
+abbrev pub StandsFor : Called → S.Rule → Around → Type 0
+StandsFor (plain n) r a = (name_in r ≡ n) × (a ≡ the_rule)
+StandsFor (unwrapped n) r a = (name_in r ≡ n) × IsBody r a
 
 -- The rules of the text, and the names for which each type of the table stands.
 module _ (rules : List S.Rule) (names : TypeName → TypeId → Type 0) where
@@ -53,17 +65,19 @@ module _ (rules : List S.Rule) (names : TypeName → TypeId → Type 0) where
   StandsAt n None p at = (h : Stands p at) × (name_in h.rule ≡ n)
   StandsAt n (Some o) p at = Stands p at × IsWithin o at
 
-  -- The name is that of a group whose entries are the map's: it is a member of the map by itself, or of a group of such a name.
-  pub data IsSpliced (map : Spot) : Text → Type 0 where
-    named_in_map : {a : Around} {t : S.Types} {at : Spot} {n : Text} → Stands (a_member a t) at → at.name ≡ Some n → at.rule ≡ map.rule → AreEnds map a → IsSpliced map n
-    named_in_group : {t : S.Types} {at : Spot} {n : Text} → (h : Stands (a_member the_rule t) at) → at.name ≡ Some n → IsSpliced map (name_in h.rule) → IsSpliced map n
+  -- The name stands for entries that are the map's: it is a member of the map by itself, or of a group for which such a name stands.
+  -- What `~` gives of a rule that is one name alone is what it gives of that name.
+  pub data IsSpliced (map : Spot) : Called → Type 0 where
+    named_in_map : {a : Around} {t : S.Types} {at : Spot} {n : Called} → Stands (a_member a t) at → at.name ≡ Some n → at.rule ≡ map.rule → AreEnds map.span a → IsSpliced map n
+    named_in_group : {a : Around} {t : S.Types} {at : Spot} {n m : Called} → (h : Stands (a_member a t) at) → at.name ≡ Some n → IsSpliced map m → StandsFor m h.rule a → IsSpliced map n
+    named_alone : {t : S.Types} {at : Spot} {n : Text} → (h : Stands (a_member the_rule t) at) → at.name ≡ Some (plain n) → IsSpliced map (unwrapped (name_in h.rule)) → IsSpliced map (unwrapped n)
 
   -- There stands the piece, in a group with this round it: in one of the map that the other part of the text is, or any in a rule of
   -- this name, if none is given.
   pub data StandsIn (n : Text) : Option Spot → Around → Piece → Spot → Type 0 where
     in_a_rule : {a : Around} {p : Piece} {at : Spot} → (h : Stands p at) → name_in h.rule ≡ n → StandsIn n None a p at
-    in_map : {map at : Spot} {a : Around} {p : Piece} → Stands p at → at.rule ≡ map.rule → AreEnds map a → StandsIn n (Some map) a p at
-    in_group : {map at : Spot} {p : Piece} → (h : Stands p at) → IsSpliced map (name_in h.rule) → StandsIn n (Some map) the_rule p at
+    in_map : {map at : Spot} {a : Around} {p : Piece} → Stands p at → at.rule ≡ map.rule → AreEnds map.span a → StandsIn n (Some map) a p at
+    in_group : {map at : Spot} {a : Around} {p : Piece} {m : Called} → (h : Stands p at) → IsSpliced map m → StandsFor m h.rule a → StandsIn n (Some map) a p at
 
   -- an entry of the group in the brackets that are the ends of the other part of the text
   pub record IsEntryWithin (around : Spot) (alternative place : ℕ) (at : Spot) : Type 0 where
@@ -71,7 +85,7 @@ module _ (rules : List S.Rule) (names : TypeName → TypeId → Type 0) where
     pub inner : Inner
     pub stands : Stands (an_entry round alternative place inner) at
     pub rule : at.rule ≡ around.rule
-    pub ends : AreEnds around round
+    pub ends : AreEnds around.span round
 
   -- The rules of a name make so many alternatives.
   pub data Make (n : Text) : List S.Rule → ℕ → Type 0 where
@@ -83,7 +97,7 @@ module _ (rules : List S.Rule) (names : TypeName → TypeId → Type 0) where
   -- those of the name that come after this one
   pub record IsEntryNamed (around : Spot) (alternative place : ℕ) (at : Spot) : Type 0 where
     pub name : Text
-    pub is_name : around.name ≡ Some name
+    pub is_name : around.name ≡ Some (plain name)
     pub own : ℕ
     pub inner : Inner
     pub stands : Stands (an_entry the_rule own place inner) at
@@ -93,10 +107,27 @@ module _ (rules : List S.Rule) (names : TypeName → TypeId → Type 0) where
     pub make : Make name (drop (at.rule + 1) rules) after
     pub whole : own + after ≡ alternative
 
-  -- one or the other of the part of the text before
+  -- What `~` gives of the one name is what it gives of the other: of the name itself, and of the name that is all of such a rule.
+  pub data AreAlike (n : Text) : Text → Type 0 where
+    itself : AreAlike n n
+    alone : {t : S.Types} {at : Spot} {m : Text} → (h : Stands (a_member the_rule t) at) → at.name ≡ Some (plain m) → AreAlike n (name_in h.rule) → AreAlike n m
+
+  -- an entry of the group in the brackets of the rule's type, where the other part of the text is `~` and a name
+  pub record IsEntryUnwrapped (around : Spot) (alternative place : ℕ) (at : Spot) : Type 0 where
+    pub called : Text
+    pub is_called : around.name ≡ Some (unwrapped called)
+    pub name : Text
+    pub alike : AreAlike called name
+    pub round : Around
+    pub inner : Inner
+    pub stands : Stands (an_entry round alternative place inner) at
+    pub stands_for : StandsFor (unwrapped name) stands.rule round
+
+  -- one of these of the part of the text before
   pub data IsEntryAt : Option Spot → (alternative place : ℕ) → Spot → Type 0 where
     within : {around : Spot} {k i : ℕ} {at : Spot} → IsEntryWithin around k i at → IsEntryAt (Some around) k i at
     named : {around : Spot} {k i : ℕ} {at : Spot} → IsEntryNamed around k i at → IsEntryAt (Some around) k i at
+    by_unwrapping : {around : Spot} {k i : ℕ} {at : Spot} → IsEntryUnwrapped around k i at → IsEntryAt (Some around) k i at
 
 -- The same, with what the terms of each rule are in an instance.
 module _ (rules : List S.Rule) (names : TypeName → TypeId → Type 0) (closed : S.Rule → Term → Term) where

@@ -3,7 +3,7 @@ use Rattle.std.specs.Prelude.{◌≡◌, ℕ, ◌+◌, ◌≤◌, List, [], ◌�
 use Rattle.tree_nodes.specs.Syntax.Syntax as S
 use Rattle.tree_nodes.specs.View.{StartsAt}
 use Rattle.cddl_language.specs.Reading.{name_at, name_in}
-use Rattle.cddl_language.specs.Terms.{Text}
+use Rattle.cddl_sources.specs.Pieces.{Called, bare_types}
 use Rattle.cddl_sources.specs.declared.span.Span.{Span}
 
 -- the last of the tokens ends there
@@ -18,20 +18,20 @@ pub record IsSpan (ts : List S.Lexeme) (s : Span) : Type 0 where
   pub starts : StartsAt ts s.first
   pub ends : EndsAt ts s.end
 
--- A part of the text in a rule, which is named by its place in the list of rules. Where it is an entry that is a name alone, it has
--- that name.
+-- A part of the text in a rule, which is named by its place in the list of rules. Where it is an entry that is one name, it has that
+-- name.
 pub record Spot : Type 0 where
   pub rule : ℕ
   pub span : Span
-  pub name : Option Text
+  pub name : Option Called
 
 -- it lies within the other part
 abbrev pub IsWithin : Spot → Spot → Type 0
 IsWithin o s = (s.rule ≡ o.rule) × (o.span.first ≤ s.span.first) × (s.span.end ≤ o.span.end)
 
--- what a rule has after its sign
+-- what a rule has after its sign, a type without the parentheses round all of it
 abbrev pub body_tokens : S.Rule → List S.Lexeme
-body_tokens (S.type_rule n a t) = S.flat_types t
+body_tokens (S.type_rule n a t) = S.flat_types (bare_types t)
 body_tokens (S.group_rule n a e) = S.flat_entry e
 
 -- where the rule has its name

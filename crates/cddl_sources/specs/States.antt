@@ -1,5 +1,5 @@
 -- What links have led to, by numbers.
-use Rattle.std.specs.Prelude.{◌≡◌, ◌↔◌, ℕ, ◌+◌, ◌<◌, ◌≤◌, nat_eq, if◌then◌else◌, Bool, true, false, List, [], ◌∷◌, ◌++◌, drop, Contains, Option, Some, None, slice_get}
+use Rattle.std.specs.Prelude.{◌≡◌, ◌↔◌, ◌⊎◌, ℕ, ◌+◌, ◌*◌, ◌<◌, ◌≤◌, nat_eq, if◌then◌else◌, Bool, true, false, List, [], ◌∷◌, ◌++◌, drop, Contains, Option, Some, None, slice_get}
 use Rattle.graphs.specs.declared.implications.Implication.{Implication}
 use Rattle.cddl_language.specs.Language.{TypeName, reference}
 use Rattle.cddl_language.specs.Terms.{Ref}
@@ -12,6 +12,7 @@ use Rattle.type_links.specs.declared.link.Link.{Link}
 use Rattle.type_links.specs.declared.link.Link.TheVariants as L
 use Rattle.cddl_sources.specs.Places.{LeadsTo}
 use Rattle.cddl_sources.specs.declared.piece.EntryAt.{EntryAt}
+use Rattle.cddl_sources.specs.declared.piece.NameAt.{NameAt}
 use Rattle.cddl_sources.specs.declared.piece.PieceAt.{PieceAt}
 use Rattle.cddl_sources.specs.declared.place.Place.{Place}
 use Rattle.cddl_sources.specs.declared.place.State.{State}
@@ -93,52 +94,92 @@ pub record IsTypeIn (x : TypesInText) (n : ℕ) (from : Option PieceAt) (m : Lin
 abbrev pub IsBetween : PieceAt → PieceAt → Type 0
 IsBetween o a = (a.rule ≡ o.rule) × (a.around ≡ Some o.span)
 
--- its group is the body of a rule with this number
-abbrev pub IsInBody : TypesInText → ℕ → PieceAt → Type 0
-IsInBody x n a = (a.around ≡ None) × HasNumber x a.rule n
+-- A name by its number, and the same after `~`.
 
--- it is an entry without a key that is the name of this number
-pub record IsMember (x : TypesInText) (n : ℕ) (a : PieceAt) : Type 0 where
+abbrev pub plain_name : ℕ → NameAt
+plain_name n = record { number = n; is_unwrapped = false }
+
+abbrev pub unwrapped_name : ℕ → NameAt
+unwrapped_name n = record { number = n; is_unwrapped = true }
+
+-- what is round a group for which the name of a rule stands: nothing, or after `~` the ends of the rule's body
+abbrev pub ends_of : Bool → RuleAt → Option Span
+ends_of false r = None
+ends_of true r = Some r.body
+
+-- the name stands for the piece's group
+pub record IsInBody (x : TypesInText) (a : PieceAt) (n : NameAt) : Type 0 where
+  pub rule : HasNumber x a.rule n.number
+  pub around : a.around ≡ ends_of n.is_unwrapped rule.at
+
+-- it is an entry without a key that is this name
+pub record IsMember (x : TypesInText) (n : NameAt) (a : PieceAt) : Type 0 where
   pub contained : Contains x.pieces.items a
   pub alone : a.entry ≡ None
   pub name : a.name ≡ Some n
 
--- The name of this number is that of a group whose entries are the map's.
-pub data IsSplicedIn (x : TypesInText) (map : PieceAt) : ℕ → Type 0 where
-  named_in_map : {n : ℕ} {a : PieceAt} → n < x.names → IsMember x n a → IsBetween map a → IsSplicedIn x map n
-  named_in_group : {n m : ℕ} {a : PieceAt} → n < x.names → IsMember x n a → IsInBody x m a → IsSplicedIn x map m → IsSplicedIn x map n
+-- The name stands for entries that are the map's.
+pub data IsSplicedIn (x : TypesInText) (map : PieceAt) : NameAt → Type 0 where
+  named_in_map : {n : NameAt} {a : PieceAt} → n.number < x.names → IsMember x n a → IsBetween map a → IsSplicedIn x map n
+  named_in_group : {n m : NameAt} {a : PieceAt} → n.number < x.names → IsMember x n a → IsInBody x a m → IsSplicedIn x map m → IsSplicedIn x map n
+  named_alone : {n m : ℕ} {a : PieceAt} → n < x.names → IsMember x (plain_name n) a → IsInBody x a (plain_name m) → IsSplicedIn x map (unwrapped_name m) → IsSplicedIn x map (unwrapped_name n)
 
 -- the key or the value is in an entry of the map
 pub data IsInMap (x : TypesInText) (map a : PieceAt) : Type 0 where
   in_its_brackets : IsBetween map a → IsInMap x map a
-  in_its_group : {n : ℕ} → IsInBody x n a → IsSplicedIn x map n → IsInMap x map a
+  in_its_group : {n : NameAt} → IsInBody x a n → IsSplicedIn x map n → IsInMap x map a
 
 -- the same, where what was found before is the map, or in a rule with this number, if nothing was
 abbrev pub IsInMapFrom : TypesInText → ℕ → Option PieceAt → PieceAt → Type 0
 IsInMapFrom x n None a = HasNumber x a.rule n
 IsInMapFrom x n (Some map) a = IsInMap x map a
 
--- for each number whether it is that of such a name
+-- A name has a number of its own, and the same with `~` the next one.
+
+abbrev pub bit : Bool → ℕ
+bit false = 0
+bit true = 1
+
+abbrev pub fact_of : NameAt → ℕ
+fact_of n = 2 * n.number + bit n.is_unwrapped
+
+-- that a fact follows by itself, or from another one
+
+abbrev pub by_itself : ℕ → Implication
+by_itself k = record { then = k; first = None; second = None }
+
+abbrev pub from_one : (conclusion premise : ℕ) → Implication
+from_one k j = record { then = k; first = Some j; second = None }
+
+-- for each such number whether it is that of such a name
 pub record AreSpliced (x : TypesInText) (map : PieceAt) (flags : List Bool) : Type 0 where
-  pub each : (n : ℕ) → (slice_get flags n ≡ Some true) ↔ IsSplicedIn x map n
+  pub each : (n : NameAt) → (slice_get flags (fact_of n) ≡ Some true) ↔ IsSplicedIn x map n
 
 abbrev pub AreSplicedFrom : TypesInText → Option PieceAt → List Bool → Type 0
 AreSplicedFrom x None flags = Unit {0}
 AreSplicedFrom x (Some map) flags = AreSpliced x map flags
 
--- its group is the body of a rule whose number has a flag
+-- a name that stands for its group has a flag
 abbrev pub IsFlagged : TypesInText → List Bool → PieceAt → Type 0
-IsFlagged x flags a = (n : ℕ) × IsInBody x n a × (slice_get flags n ≡ Some true)
+IsFlagged x flags a = (n : NameAt) × IsInBody x a n × (slice_get flags (fact_of n) ≡ Some true)
 
--- What follows from one piece: the name of a member of the map is that of a group whose entries are its; and one of a member of a
--- rule, if the name of the rule is.
+-- What follows from one piece: the name of a member of the map stands for entries that are its; that of a member of a group, if the name
+-- for which the group stands does; and with `~` the name that is all of a rule, if that of the rule does with `~`.
 pub data IsStep (x : TypesInText) (map a : PieceAt) : Implication → Type 0 where
-  step_in_map : {n : ℕ} → IsMember x n a → IsBetween map a → IsStep x map a (record { then = n; first = None; second = None })
-  step_in_group : {n m : ℕ} → IsMember x n a → IsInBody x m a → IsStep x map a (record { then = n; first = Some m; second = None })
+  step_in_map : {n : NameAt} → IsMember x n a → IsBetween map a → IsStep x map a (by_itself (fact_of n))
+  step_in_group : {n m : NameAt} → IsMember x n a → IsInBody x a m → IsStep x map a (from_one (fact_of n) (fact_of m))
+  step_alone : {n m : ℕ} → IsMember x (plain_name n) a → IsInBody x a (plain_name m) → IsStep x map a (from_one (fact_of (unwrapped_name n)) (fact_of (unwrapped_name m)))
 
-pub record AreSteps (x : TypesInText) (map : PieceAt) (steps : List Implication) : Type 0 where
-  pub each : (i : Implication) → Contains steps i → (a : PieceAt) × IsStep x map a i
-  pub all : (a : PieceAt) (i : Implication) → IsStep x map a i → Contains steps i
+-- the list has what follows from one piece more
+pub record HasGrown (step : Implication → Type 0) (old new : List Implication) : Type 0 where
+  pub each : (i : Implication) → Contains new i → Contains old i ⊎ step i
+  pub kept : (i : Implication) → Contains old i → Contains new i
+  pub all : (i : Implication) → step i → Contains new i
+
+-- it has what follows from each, and nothing else
+pub record AreSteps (step : PieceAt → Implication → Type 0) (steps : List Implication) : Type 0 where
+  pub each : (i : Implication) → Contains steps i → (a : PieceAt) × step a i
+  pub all : (a : PieceAt) (i : Implication) → step a i → Contains steps i
 
 -- it is the key of an entry and of this type
 pub record IsKeyIn (x : TypesInText) (n : ℕ) (from : Option PieceAt) (key : TypeId) (a : PieceAt) : Type 0 where
@@ -197,18 +238,60 @@ pub record IsAlternative (x : TypesInText) (n alternative i own : ℕ) : Type 0 
   pub less : own < count_in n (slice_get x.rules.items i)
   pub after : own + counted n (drop (i + 1) x.rules.items) ≡ alternative
 
--- it is an entry of a rule of the name that the other is
-pub record IsEntryNamed (x : TypesInText) (around : PieceAt) (alternative place : ℕ) (a : PieceAt) : Type 0 where
-  pub name : ℕ
-  pub is_name : around.name ≡ Some name
+-- it is an entry of a rule with this number
+pub record IsEntryOfName (x : TypesInText) (n alternative place : ℕ) (a : PieceAt) : Type 0 where
   pub own : ℕ
-  pub is_alternative : IsAlternative x name alternative a.rule own
+  pub is_alternative : IsAlternative x n alternative a.rule own
   pub is : IsEntryOfRule x a.rule own place a
 
--- one or the other of what was found before
+-- the same, where this is the name that the other is
+pub record IsEntryNamed (x : TypesInText) (around : PieceAt) (alternative place : ℕ) (a : PieceAt) : Type 0 where
+  pub name : ℕ
+  pub is_name : around.name ≡ Some (plain_name name)
+  pub is : IsEntryOfName x name alternative place a
+
+-- What `~` gives of the name of the one number is what it gives of that of the other.
+pub data AreAlikeIn (x : TypesInText) (n : ℕ) : ℕ → Type 0 where
+  itself : n < x.names → AreAlikeIn x n n
+  alone : {k m : ℕ} {a : PieceAt} → k < x.names → IsMember x (plain_name k) a → IsInBody x a (plain_name m) → AreAlikeIn x n m → AreAlikeIn x n k
+
+-- for each number whether it is such a one
+pub record AreMarked (x : TypesInText) (n : ℕ) (flags : List Bool) : Type 0 where
+  pub each : (k : ℕ) → (slice_get flags k ≡ Some true) ↔ AreAlikeIn x n k
+
+-- the name that is all of a rule is such a one, if the name of the rule is
+pub data IsAloneStep (x : TypesInText) (a : PieceAt) : Implication → Type 0 where
+  step_of_rule : {k m : ℕ} → IsMember x (plain_name k) a → IsInBody x a (plain_name m) → IsAloneStep x a (from_one k m)
+
+-- it is in the brackets that are the body of a rule whose name has a flag
+pub record IsInMarked (x : TypesInText) (flags : List Bool) (a : PieceAt) : Type 0 where
+  pub name : ℕ
+  pub body : IsInBody x a (unwrapped_name name)
+  pub flag : slice_get flags name ≡ Some true
+
+-- it is an entry in the brackets that are the body of a rule of which `~` gives what it gives of the name of this number
+pub record IsEntryInBody (x : TypesInText) (n alternative place : ℕ) (a : PieceAt) : Type 0 where
+  pub contained : Contains x.pieces.items a
+  pub name : ℕ
+  pub alike : AreAlikeIn x n name
+  pub body : IsInBody x a (unwrapped_name name)
+  pub is : IsPlacedIn alternative place a.entry
+
+-- the same, where the other is `~` and the name of this number
+pub record IsEntryUnwrapped (x : TypesInText) (around : PieceAt) (alternative place : ℕ) (a : PieceAt) : Type 0 where
+  pub called : ℕ
+  pub is_called : around.name ≡ Some (unwrapped_name called)
+  pub is : IsEntryInBody x called alternative place a
+
+-- it is none of the name that the other is
+abbrev pub AreNoEntry : TypesInText → PieceAt → (alternative place : ℕ) → PieceAt → Type 0
+AreNoEntry x around k i a = (IsEntryNamed x around k i a → ⊥) × (IsEntryUnwrapped x around k i a → ⊥)
+
+-- one of these of what was found before
 pub data IsEntryOf (x : TypesInText) : Option PieceAt → (alternative place : ℕ) → PieceAt → Type 0 where
   within : {around : PieceAt} {k i : ℕ} {a : PieceAt} → IsEntryWithin x around k i a → IsEntryOf x (Some around) k i a
   named : {around : PieceAt} {k i : ℕ} {a : PieceAt} → IsEntryNamed x around k i a → IsEntryOf x (Some around) k i a
+  by_unwrapping : {around : PieceAt} {k i : ℕ} {a : PieceAt} → IsEntryUnwrapped x around k i a → IsEntryOf x (Some around) k i a
 
 -- two links lead to it together
 pub data ArePairIn (x : TypesInText) (n : ℕ) (from : Option PieceAt) : Link → Link → PieceAt → Type 0 where

@@ -1,8 +1,9 @@
 -- What one step of the walk over a tree adds to the list of pieces.
-use Rattle.std.specs.Prelude.{◌≡◌, ℕ, List, [], ◌∷◌, ◌++◌, length, map}
+use Rattle.std.specs.Prelude.{◌≡◌, ℕ, Bool, true, false, List, [], ◌∷◌, ◌++◌, length, map}
 use Rattle.std.specs.List.{flat_map}
 use Rattle.cddl_token.specs.declared.Token.{Token}
 use Rattle.tree_nodes.specs.Syntax.Syntax as S
+use Rattle.cddl_language.specs.Terms.{Text}
 use Rattle.tree_nodes.specs.declared.tree.Leaf.{Leaf}
 use Rattle.tree_nodes.specs.declared.tree.Entry.{Entry}
 use Rattle.tree_nodes.specs.declared.tree.Further.{Further}
@@ -16,7 +17,8 @@ use Rattle.cddl_sources.specs.declared.node.InnerNode.TheVariants as InnerV
 use Rattle.cddl_sources.specs.declared.node.Found.{Found}
 use Rattle.cddl_sources.specs.declared.node.Node.{Node}
 use Rattle.cddl_sources.specs.declared.node.Node.TheVariants as NodeV
-use Rattle.cddl_sources.specs.Pieces.{Around, Inner, Piece, a_key, a_member, a_type, a_value, a_word, an_entry, brackets, in_entry, in_type1, inner_of, key_piece, of_group, of_types, operand, placed, the_rule}
+use Rattle.cddl_sources.specs.declared.names.LoneName.{LoneName}
+use Rattle.cddl_sources.specs.Pieces.{Around, Called, Inner, Piece, a_key, a_member, a_type, a_value, a_word, an_entry, brackets, in_entry, in_type1, inner_of, key_piece, of_group, of_types, operand, placed, plain, the_rule, unwrapped}
 
 abbrev pub view_around : (Leaf → Token) → AroundNode → Around
 view_around read (AroundV.Brackets o c) = brackets (read o) (read c)
@@ -36,6 +38,15 @@ view_node read (NodeV.Key a k) = a_key (view_around read a) (key_piece (view_key
 view_node read (NodeV.Value a k t) = a_value (view_around read a) (key_piece (view_key read k.now)) (view_types read t.now)
 view_node read (NodeV.Member a t) = a_member (view_around read a) (view_types read t.now)
 view_node read (NodeV.Entry e) = an_entry (view_around read e.around) e.alternative e.place (view_inner read e.inner)
+
+-- a name by itself, or after `~`
+
+abbrev pub called : Bool → Text → Called
+called false y = plain y
+called true y = unwrapped y
+
+abbrev pub name_of : LoneName → Called
+name_of n = called n.is_unwrapped n.text.now
 
 -- with the place of its rule
 abbrev pub view_found : (Leaf → Token) → Found → ℕ × Piece

@@ -15,7 +15,7 @@ ghost use Rattle.cddl_sources.specs.Walk.{view_around, view_node};
 
 use crate::names::lone_name;
 use crate::node::{AroundNode, EntryNode, Found, InnerNode, Node, key_node};
-use crate::piece::{EntryAt, PieceAt};
+use crate::piece::{EntryAt, NameAt, PieceAt};
 use crate::span::{Span, brackets_span, node_span};
 use check_reading::reader::{read_operand, read_operation, read_type_entry};
 use check_terms::laws::growing_keeps;
@@ -133,12 +133,12 @@ fn around_span(tree: &Tree<'_>, around: AroundNode) -> Option<Span>
     }
 }
 
-// The number of the name that an entry or a member is, if it is one alone.
+// The name that an entry or a member is, if it is one alone.
 fn node_name<'s>(
     terms: &mut Terms<'s>,
     tree: &Tree<'s>,
     node: Node<'_>,
-) -> Result<Option<u32>, NoRoom>
+) -> Result<Option<NameAt>, NoRoom>
     ensures grows { Grows terms.old terms.new }
     ensures name { IfOk result (λ o. IsNumberOf terms.new (name_there (view_node (token_of tree.now) node.entry)) o) }
 {
@@ -154,17 +154,20 @@ fn node_name<'s>(
     }
 }
 
-// The number of the name that a type is, if it is one alone.
+// The name that a type is, if it is one alone.
 fn types_name<'s>(
     terms: &mut Terms<'s>,
     tree: &Tree<'s>,
     types: &Types,
-) -> Result<Option<u32>, NoRoom>
+) -> Result<Option<NameAt>, NoRoom>
     ensures grows { Grows terms.old terms.new }
     ensures name { IfOk result (λ o. IsNumberOf terms.new (name_of_types (bare_types (view_types (token_of tree.now) types.now))) o) }
 {
     match lone_name(tree, types) {
-        Some(name) => Ok(Some(terms.add_text(name)?)),
+        Some(name) => Ok(Some(NameAt {
+            number: terms.add_text(name.text)?,
+            is_unwrapped: name.is_unwrapped,
+        })),
         None => Ok(None),
     }
 }

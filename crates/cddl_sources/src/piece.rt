@@ -13,6 +13,13 @@ pub(crate) struct EntryAt {
     pub(crate) place: usize,
 }
 
+// The number of a name, which stands by itself or after `~`.
+#[derive(Clone, Copy)]
+pub(crate) struct NameAt {
+    pub(crate) number: u32,
+    pub(crate) is_unwrapped: bool,
+}
+
 // Where a type that is of this stands, or an entry.
 #[derive(Clone, Copy)]
 pub(crate) struct PieceAt {
@@ -27,7 +34,7 @@ pub(crate) struct PieceAt {
     pub(crate) around: Option<Span>,
     // Where it stands in its group, where it is an entry.
     pub(crate) entry: Option<EntryAt>,
-    // The number of the name that it is, where it is an entry or a member, and one name alone, with arguments or without.
-    pub(crate) name: Option<u32>,
+    // The name that it is, where it is an entry or a member, and one name alone, with arguments or without.
+    pub(crate) name: Option<NameAt>,
     pub(crate) span: Span,
 }

@@ -12,7 +12,7 @@ ghost use Rattle.type_links.specs.declared.link.Link.{Link as ALink};
 ghost use Rattle.cddl_sources.specs.Places.{IsOfNoRule, IsPlace};
 ghost use Rattle.cddl_sources.specs.Instances.{has_arguments, term_in};
 ghost use Rattle.cddl_sources.specs.Sources.{AreTypesOf};
-ghost use Rattle.cddl_sources.specs.States.{AreNoPairIn, ArePairIn, HasNoRule, HasNumber, AreSplicedFrom, IsAlternative, IsBetween, IsEntryNamed, IsEntryOf, IsEntryThere, IsFoundAfter, IsFrom, IsInside, IsKeyIn, IsKeyPlace, IsNarrowed, IsOfLast, IsOfOrigin, IsOneIn, IsPlacedIn, IsRuleIn, IsStarted, IsStateAfter, IsStateOf, IsTold, IsTypeIn, IsInMapFrom, IsValueIn, LeadsIn, count_in, flattened, number_at, origin_at};
+ghost use Rattle.cddl_sources.specs.States.{AreNoPairIn, ArePairIn, HasNoRule, HasNumber, AreSplicedFrom, IsAlternative, IsBetween, IsEntryNamed, IsEntryOf, IsEntryOfName, IsEntryThere, AreNoEntry, IsFoundAfter, IsFrom, IsInside, IsKeyIn, IsKeyPlace, IsNarrowed, IsOfLast, IsOfOrigin, IsOneIn, IsPlacedIn, IsRuleIn, IsStarted, IsStateAfter, IsStateOf, IsTold, IsTypeIn, IsInMapFrom, IsValueIn, LeadsIn, count_in, flattened, number_at, origin_at};
 ghost use Rattle.cddl_sources.specs.declared.piece.PieceAt.{PieceAt as Piece};
 
 use crate::piece::{EntryAt, PieceAt};
@@ -29,7 +29,7 @@ pub struct Place {
     /// The name of the rule, where it is defined: what stands between the offsets is the name.
     pub name: Span,
     /// The type, without parentheses round all of it. Where none of the types that led to it stands in the rule, it is all that the
-    /// rule has after its sign.
+    /// rule has after its sign, without such parentheses too.
     pub types: Span,
     /// How the type is written. In an instance with arguments that is how it is written in a rule of another name, if it is, so that an
     /// argument is told and not the parameter in whose place it is; else it is what stands there.
@@ -316,7 +316,7 @@ impl TypesInText {
     {
         match first {
             Link::Type(_) => self.value_in(alloc, number, found, first, link),
-            Link::Alternative { after } => Ok(self.entry_after(number, found, after, link)),
+            Link::Alternative { after } => self.entry_after(alloc, number, found, after, link),
             Link::Entry { .. } => Ok(None),
             Link::Key(_) => Ok(None),
         }
@@ -325,19 +325,20 @@ impl TypesInText {
     // Where this link leads after the one to an alternative.
     fn entry_after(
         &self,
+        alloc: Global,
         number: u32,
         found: Option<PieceAt>,
         alternative: usize,
         link: Link,
-    ) -> Option<PieceAt>
-        ensures some { IfSome result (ArePairIn self.now number found (Link.Alternative alternative) link) }
-        ensures none { IfNone result ((a : Piece) → ArePairIn self.now number found (Link.Alternative alternative) link a → ⊥) }
+    ) -> Result<Option<PieceAt>, AllocError>
+        ensures some { IfOk result (λ o. IfSome o (ArePairIn self.now number found (Link.Alternative alternative) link)) }
+        ensures none { IfOk result (λ o. IfNone o ((a : Piece) → ArePairIn self.now number found (Link.Alternative alternative) link a → ⊥)) }
     {
         match link {
-            Link::Entry { after } => self.entry_in(found, alternative, after),
-            Link::Type(_) => None,
-            Link::Alternative { .. } => None,
-            Link::Key(_) => None,
+            Link::Entry { after } => self.entry_in(alloc, found, alternative, after),
+            Link::Type(_) => Ok(None),
+            Link::Alternative { .. } => Ok(None),
+            Link::Key(_) => Ok(None),
         }
     }
 
@@ -406,24 +407,52 @@ impl TypesInText {
         self.first_value(number, found, names, key, origin)
     }
 
-    // The place of an entry of the group that what was found before is, in its brackets or by its name.
-    fn entry_in(&self, found: Option<PieceAt>, alternative: usize, place: usize) -> Option<PieceAt>
-        ensures some { IfSome result (IsEntryOf self.now found alternative place) }
-        ensures none { IfNone result ((a : Piece) → IsEntryOf self.now found alternative place a → ⊥) }
+    // The place of an entry of the group that what was found before is, in its brackets or for which its name stands.
+    fn entry_in(
+        &self,
+        alloc: Global,
+        found: Option<PieceAt>,
+        alternative: usize,
+        place: usize,
+    ) -> Result<Option<PieceAt>, AllocError>
+        ensures some { IfOk result (λ o. IfSome o (IsEntryOf self.now found alternative place)) }
+        ensures none { IfOk result (λ o. IfNone o ((a : Piece) → IsEntryOf self.now found alternative place a → ⊥)) }
     {
-        let around = found?;
+        let Some(around) = found else {
+            return Ok(None);
+        };
         match self.first_entry(around.rule, Some(around.span), alternative, place) {
-            Some(entry) => Some(entry),
-            None => self.entry_named(around, alternative, place),
+            Some(entry) => Ok(Some(entry)),
+            None => self.entry_called(alloc, around, alternative, place),
         }
     }
 
     // The same by its name.
-    fn entry_named(&self, around: PieceAt, alternative: usize, place: usize) -> Option<PieceAt>
-        ensures some { IfSome result (IsEntryNamed self.now around alternative place) }
-        ensures none { IfNone result ((a : Piece) → IsEntryNamed self.now around alternative place a → ⊥) }
+    fn entry_called(
+        &self,
+        alloc: Global,
+        around: PieceAt,
+        alternative: usize,
+        place: usize,
+    ) -> Result<Option<PieceAt>, AllocError>
+        ensures some { IfOk result (λ o. IfSome o (IsEntryOf self.now (Some around) alternative place)) }
+        ensures none { IfOk result (λ o. IfNone o ((a : Piece) → AreNoEntry self.now around alternative place a)) }
     {
-        let name = around.name?;
+        let Some(name) = around.name else {
+            return Ok(None);
+        };
+        if name.is_unwrapped {
+            self.entry_unwrapped(alloc, name.number, alternative, place)
+        } else {
+            Ok(self.entry_named(name.number, alternative, place))
+        }
+    }
+
+    // An entry of the group of this name.
+    fn entry_named(&self, name: u32, alternative: usize, place: usize) -> Option<PieceAt>
+        ensures some { IfSome result (IsEntryOfName self.now name alternative place) }
+        ensures none { IfNone result ((a : Piece) → IsEntryOfName self.now name alternative place a → ⊥) }
+    {
         let found = self.alternative_in(name, alternative)?;
         self.first_entry(found.rule, None, found.own, place)
     }
@@ -597,7 +626,7 @@ pub(crate) fn is_between(outer: PieceAt, piece: PieceAt) -> bool
 }
 
 // Whether the piece has this round its group.
-fn is_round(piece: PieceAt, around: Option<Span>) -> bool
+pub(crate) fn is_round(piece: PieceAt, around: Option<Span>) -> bool
     ensures { IsTrue result ↔ (piece.around ≡ around) }
 {
     piece.around == around
@@ -627,7 +656,7 @@ fn is_there(
 }
 
 // Whether it is an entry with so many alternatives and so many entries after it.
-fn is_placed(entry: Option<EntryAt>, alternative: usize, place: usize) -> bool
+pub(crate) fn is_placed(entry: Option<EntryAt>, alternative: usize, place: usize) -> bool
     ensures { IsTrue result ↔ IsPlacedIn alternative place entry }
 {
     match entry {

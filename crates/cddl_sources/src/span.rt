@@ -129,12 +129,12 @@ fn word_end(tree: &Tree<'_>, leaf: Leaf) -> usize
     end_of(tree, leaf)
 }
 
-// Where the body of a rule stands.
+// Where the body of a rule stands, a type without the parentheses round all of it.
 pub(crate) fn body_span(tree: &Tree<'_>, rule: &Rule) -> Span
     ensures { IsSpan (body_tokens (view_rule (token_of tree.now) rule.now)) result }
 {
     match rule {
-        Rule::TypeRule { types, .. } => types_span(tree, types),
+        Rule::TypeRule { types, .. } => bare_span(tree, types),
         Rule::GroupRule { grpent, .. } => Span {
             first: grpent.start(tree),
             end: entry_end(tree, grpent),

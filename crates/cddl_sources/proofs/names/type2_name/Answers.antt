@@ -3,7 +3,7 @@ use Rattle.std.proofs.Common.{Some, ap, refl}
 use Rattle.cddl_sources.proofs.names.type2_name.Goals as goal
 
 pub returns-in-Typename : goal.returns-in-Typename
-returns-in-Typename c = simp (c.in-Typename.is, views) (ap Some c.ref_name.ensures)
+returns-in-Typename c = simp (c.in-Typename.is, views) (ap Some c.called.ensures)
 
 pub returns-in-Literal : goal.returns-in-Literal
 returns-in-Literal c = simp (c.in-Literal.is, views) refl
@@ -18,7 +18,7 @@ pub returns-in-ArrayOf : goal.returns-in-ArrayOf
 returns-in-ArrayOf c = simp (c.in-ArrayOf.is, views) refl
 
 pub returns-in-Unwrapped : goal.returns-in-Unwrapped
-returns-in-Unwrapped c = simp (c.in-Unwrapped.is, views) refl
+returns-in-Unwrapped c = simp (c.in-Unwrapped.is, views) (ap Some c.called-in-Unwrapped.ensures)
 
 pub returns-in-ChoiceOf : goal.returns-in-ChoiceOf
 returns-in-ChoiceOf c = simp (c.in-ChoiceOf.is, views) refl

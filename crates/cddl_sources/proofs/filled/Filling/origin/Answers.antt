@@ -1,4 +1,4 @@
-use Rattle.std.proofs.Common.{Some, subst}
+use Rattle.std.proofs.Common.{subst}
 use Rattle.cddl_language.specs.Substitution.{fill}
 use Rattle.cddl_sources.specs.Origins.{MayBeOf}
 use Rattle.cddl_sources.proofs.FilledPieces.{none_filled_there, some_filled}

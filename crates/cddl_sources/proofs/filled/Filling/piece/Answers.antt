@@ -1,4 +1,4 @@
-use Rattle.std.proofs.Common.{Bor, Some, option_map, refl, sym, ap, ◌∙◌}
+use Rattle.std.proofs.Common.{Bor, option_map, refl, sym, ap, ◌∙◌}
 use Rattle.check_terms.specs.declared.fill.slots.Slots.{Slots}
 use Rattle.cddl_language.specs.Reading.{parameters_in}
 use Rattle.cddl_language.specs.Substitution.{fill}

@@ -1,4 +1,4 @@
-use Rattle.std.proofs.Common.{List, ◌++◌, ◌∷◌, [], ap, sym, subst, take, ◌∙◌}
+use Rattle.std.proofs.Common.{List, subst}
 use Rattle.std.proofs.lemmas.List.{take_all, take_more}
 use Rattle.cddl_sources.specs.Filling.{ArePiecesFilled}
 use Rattle.cddl_sources.specs.declared.piece.PieceAt.{PieceAt}

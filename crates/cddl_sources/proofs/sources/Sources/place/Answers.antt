@@ -1,4 +1,4 @@
-use Rattle.std.proofs.Common.{Option, ℕ, subst}
+use Rattle.std.proofs.Common.{subst}
 use Rattle.cddl_sources.specs.Instances.{all_as_written}
 use Rattle.cddl_sources.specs.States.{IsLastIn}
 use Rattle.cddl_sources.proofs.Standing.{no_rule}

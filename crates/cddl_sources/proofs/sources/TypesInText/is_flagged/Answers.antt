@@ -3,4 +3,4 @@ use Rattle.lists.proofs.Lemmas.{some_none}
 use Rattle.cddl_sources.proofs.sources.TypesInText.is_flagged.Goals as goal
 
 pub returns-in-None : goal.returns-in-None
-returns-in-None c = (λ h. cc, λ f. absurd (some_none (sym (c.body_number.ensures.all f.0 f.1) ∙ c.in-None.is)))
+returns-in-None c = (λ h. cc, λ f. absurd (some_none (sym (c.body_name.ensures.all f.0 f.1) ∙ c.in-None.is)))

@@ -1,4 +1,4 @@
-use Rattle.std.proofs.Common.{List, [], ◌++◌, ◌∷◌, ap, sym, subst, take, ◌∙◌}
+use Rattle.std.proofs.Common.{List, sym, subst, take}
 use Rattle.std.proofs.lemmas.List.{take_all, take_more}
 use Rattle.lists.proofs.Lemmas.{none_in}
 use Rattle.type_links.specs.declared.link.Link.{Link}

@@ -1,14 +1,20 @@
 use Rattle.std.proofs.Common.{List, ◌≤◌, length, subst, sym}
 use Rattle.graphs.specs.declared.implications.Implication.{Implication}
+use Rattle.cddl_sources.specs.States.{IsStep}
 use Rattle.cddl_sources.specs.declared.piece.PieceAt.{PieceAt}
-use Rattle.cddl_sources.proofs.Splicing.{AreStepsTo, all_steps, next_at, no_steps}
+use Rattle.cddl_sources.proofs.Splicing.{AreStepsTo, all_steps, next_at, no_steps, step_piece}
 use Rattle.cddl_sources.proofs.sources.TypesInText.steps.Goals as goal
 
 pub loop-piece-init : goal.loop-piece-init
-loop-piece-init c = subst (λ (is : List Implication). AreStepsTo c.args.self.now c.args.map is 0) (sym c.new-steps.ensures.items) (no_steps c.args.self.now c.args.map)
+loop-piece-init c =
+    let x = c.args.self.now in
+    let step = IsStep x c.args.map in
+    subst (λ (is : List Implication). AreStepsTo x step is 0) (sym c.new-steps.ensures.items) (no_steps x step)
 
 pub loop-piece-preserved : goal.loop-piece-preserved
-loop-piece-preserved c = next_at c.args.self.now c.args.map c.loop-piece.steps.items _ c.deref-piece-items.result.now c.loop-piece.piece-index _ c.step_of.result c.step_of.ensures.all c.step_of.ensures.some c.deref-piece-items.ensures.value c.loop-piece-test.true c.in_ok-push_step.ensures c.loop-piece.invariant
+loop-piece-preserved c = next_at c.args.self.now (IsStep c.args.self.now c.args.map) c.loop-piece.steps.items _ c.deref-piece-items.result.now c.loop-piece.piece-index _ c.deref-piece-items.ensures.value c.loop-piece-test.true c.in_ok-push_steps.ensures c.loop-piece.invariant
 
 pub returns : goal.returns
-returns c = all_steps c.args.self.now c.args.map c.loop-piece.steps.items c.loop-piece.piece-index (subst (λ (xs : List PieceAt). length xs ≤ c.loop-piece.piece-index) c.deref-piece-items.ensures.value c.loop-piece-test.false) c.loop-piece.invariant
+returns c =
+    let x = c.args.self.now in
+    all_steps x (IsStep x c.args.map) (step_piece x c.args.map) c.loop-piece.steps.items c.loop-piece.piece-index (subst (λ (xs : List PieceAt). length xs ≤ c.loop-piece.piece-index) c.deref-piece-items.ensures.value c.loop-piece-test.false) c.loop-piece.invariant
