@@ -66,7 +66,7 @@ first_of t n r m x e f (part {i = i} g d a b) = subst (λ (o : Option ℕ). Hold
 -- rules
 
 rule_kept : (old new : Table) (r : S.Rule) (a : RuleAt) → Grows old new → IsRuleAt old r a → IsRuleAt new r a
-rule_kept old new r a g h = record { number = g.texts a.number _ h.number; alternatives = h.alternatives; name = h.name; body = h.body }
+rule_kept old new r a g h = record { number = g.texts a.number _ h.number; alternatives = h.alternatives; generic = h.generic; name = h.name; body = h.body }
 
 -- the rules so far
 pub record AreSoFar (t : Table) (read : Leaf → Token) (rules : List Rule) (xs : List RuleAt) (i : ℕ) : Type 0 where

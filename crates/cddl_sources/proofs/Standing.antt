@@ -21,11 +21,11 @@ use Rattle.type_links.specs.declared.link.Link.TheVariants as L
 use Rattle.cddl_sources.specs.Instances.{has_arguments, term_in}
 use Rattle.cddl_sources.specs.Origins.{AreRound, AreRoundIt, IsClosedKey, IsClosedOrigin, IsClosedPiece, IsNumberOf, MayBeClosed, MayBeIn, Stands as IsThere, called_in, in_its_place, is_of, may_be_group, no_type, of_type, of_value as of_keyed, of_word as of_token}
 use Rattle.cddl_sources.specs.Pieces.{Around, Called, Piece, a_key, a_member, a_type, a_value, a_word, an_entry, brackets, in_rule, name_there, plain, the_rule, name_of_piece, told_name, tokens_of_piece, unwrapped}
-use Rattle.cddl_sources.specs.Places.{AreAlike, AreEnds, AreNoPair, ArePairAt, BeginsWithInstance, IsEntryAt, IsEntryNamed, IsEntryUnwrapped, IsEntryWithin, IsKeyAt, IsOf, IsOfNoRule, IsOneAt, IsPlace, IsShown, IsSpliced, IsTypeAt, IsValueAt, IsWritten, Leads, LeadsTo, Stands, StandsAt, StandsFor, StandsIn, a_piece, alone, are_ends, arrives, as_it_is, by_unwrapping, in_a_rule, in_another, in_group, in_map, itself, named, named_alone, named_in_group, named_in_map, of_entry, of_key, of_type as of_one_type, of_value, passes, the_body, to_one, to_pair, within}
+use Rattle.cddl_sources.specs.Places.{AreAlike, AreEnds, AreNoPair, ArePairAt, BeginsWithInstance, IsEntryAt, IsEntryNamed, IsEntryUnwrapped, IsEntryWithin, IsKeyAt, IsOf, IsOfNoRule, IsOneAt, IsPlace, IsShown, IsSpliced, IsTypeAt, IsUnfilledAt, IsValueAt, IsWritten, Leads, LeadsTo, Stands, StandsAt, StandsFor, StandsIn, a_piece, alone, are_ends, arrives, as_it_is, by_unwrapping, in_a_rule, in_another, in_group, in_map, itself, named, named_alone, named_in_group, named_in_map, of_entry, of_key, of_type as of_one_type, of_unfilled, of_value, passes, the_body, to_one, to_pair, within}
 use Rattle.cddl_sources.specs.Sources.{AreTypesOf, IsRuleAt}
 use Rattle.cddl_sources.specs.Spans.{IsNameSpan, IsSpan, IsWithin, Spot, body_tokens}
 use Rattle.cddl_sources.specs.Walk.{called}
-use Rattle.cddl_sources.specs.States.{AreAlikeIn, AreNoPairIn, ArePairIn, ArePassed, HasNoRule, HasNumber, IsEntryNamed as IsNamedNumbers, IsEntryOf, IsEntryUnwrapped as IsUnwrappedNumbers, IsEntryWithin as IsWithinNumbers, IsFoundAfter, IsFrom, IsInBody, IsKeyIn, IsMember, IsOfLast, IsOneIn, IsSplicedIn, IsStateAfter, IsTold, IsTypeIn, IsInMapFrom, IsValueIn, IsWrittenIn, LeadsIn, alone as numbers_alone, arrives as by_none, as_it_is as by_itself, by_unwrapping as by_unwrapped, count_in, counted, ends_of, flattened, named as by_name, name_number, number_at, number_in, named_alone as numbered_alone, named_in_group as numbered_in_group, named_in_map as numbered_in_map, of_entry as by_entry, of_key as by_key, of_type as by_type, of_value as by_value, origin_at, passes as gone_by, text_in, to_one as by_one, to_pair as by_pair, in_another as by_another, itself as number_itself, in_its_group, in_its_brackets, plain_name, told_origin, unwrapped_name, within as by_brackets}
+use Rattle.cddl_sources.specs.States.{AreAlikeIn, AreNoPairIn, ArePairIn, ArePassed, HasNoRule, HasNumber, IsEntryNamed as IsNamedNumbers, IsEntryOf, IsEntryUnwrapped as IsUnwrappedNumbers, IsEntryWithin as IsWithinNumbers, IsFoundAfter, IsFrom, IsInBody, IsKeyIn, IsMember, IsOfLast, IsOneIn, IsSplicedIn, IsStateAfter, IsTold, IsTypeIn, IsInMapFrom, IsUnfilledIn, IsValueIn, IsWrittenIn, LeadsIn, alone as numbers_alone, arrives as by_none, as_it_is as by_itself, by_unwrapping as by_unwrapped, count_in, counted, ends_of, flattened, named as by_name, name_number, number_at, number_in, named_alone as numbered_alone, named_in_group as numbered_in_group, named_in_map as numbered_in_map, of_entry as by_entry, of_key as by_key, of_type as by_type, of_unfilled as by_unfilled, of_value as by_value, origin_at, passes as gone_by, text_in, to_one as by_one, to_pair as by_pair, in_another as by_another, itself as number_itself, in_its_group, in_its_brackets, plain_name, told_origin, unwrapped_name, within as by_brackets}
 use Rattle.cddl_sources.specs.declared.piece.EntryAt.{EntryAt}
 use Rattle.cddl_sources.specs.declared.piece.NameAt.{NameAt}
 use Rattle.cddl_sources.specs.declared.piece.PieceAt.{PieceAt}
@@ -39,7 +39,7 @@ use Rattle.cddl_sources.proofs.Counting.{AreLike, counted_so, has_number, like_d
 use Rattle.cddl_sources.proofs.Ending.{one_end, one_start}
 use Rattle.cddl_sources.proofs.Growing.{kept}
 use Rattle.cddl_sources.proofs.Stepping.{found_piece}
-use Rattle.cddl_sources.proofs.Told.{may_name, one_name, one_origin, origin_of, piece_name, place_alone, told_by, told_with}
+use Rattle.cddl_sources.proofs.Told.{may_name, value_typed, one_name, one_origin, origin_of, piece_name, place_alone, told_by, told_with}
 
 -- the name of a reference, by its row
 call_number : (t : Table) (n : ℕ) (q : Ref) → IsRef t n q → (k : ℕ) × (text_in (slice_get t.rows n) ≡ Some k) × (slice_get t.texts k ≡ Some (name_of q))
@@ -146,6 +146,23 @@ module _ (s : Sense) (terms : Table) (nodes : Nodes) (x : TypesInText) (closed :
   named_piece at r there p o (L.Alternative i) e h = cc
   named_piece at r there p o (L.Entry i) e h = cc
   named_piece at r there p o (L.Key i) e h = cc
+
+  -- a link with an origin is to a type, and one to a type has an origin
+
+  led_to : (m : Link) (o : TypeOrigin) → origin_at x m ≡ Some o → (y : TypeName) × LeadsTo (IsNameOfType s terms nodes) y m
+  led_to (L.Type m) o e =
+      let there = ap (λ os. slice_get os m.number) (sym k.made.origins) ∙ e in
+      let named = k.are_nodes.types_named m.number o there in
+      (named.0, record { origin = o; there = there; named = named.1 })
+  led_to (L.Alternative i) o e = cc
+  led_to (L.Entry i) o e = cc
+  led_to (L.Key i) o e = cc
+
+  led_from : (m : Link) (y : TypeName) → LeadsTo (IsNameOfType s terms nodes) y m → (o : TypeOrigin) × (origin_at x m ≡ Some o)
+  led_from (L.Type m) y g = (g.origin, ap (λ os. slice_get os m.number) k.made.origins ∙ g.there)
+  led_from (L.Alternative i) y g = absurd g
+  led_from (L.Entry i) y g = absurd g
+  led_from (L.Key i) y g = absurd g
 
   -- an origin that is an instance's is of a reference
   pub an_instance : (m : Link) (i : ℕ) → origin_at x m ≡ Some (T.Instance i) → (q : Ref) × LeadsTo (IsNameOfType s terms nodes) (reference q) m × (slice_get s.refs i ≡ Some q)
@@ -634,6 +651,34 @@ module _ (s : Sense) (terms : Table) (nodes : Nodes) (x : TypesInText) (closed :
         by (a_member o z) g b there is = absurd (some_none (sym h.same ∙ g))
         by (an_entry o j i e) g b there is = absurd (some_none (sym h.same ∙ g))
 
+    unfilled_at : (from : Option PieceAt) (key m : Link) (a : PieceAt) → IsUnfilledIn x n from key m a → IsUnfilledAt (rules_of s.tree) (IsNameOfType s terms nodes) closed y (option_map spot from) key m (spot a)
+    unfilled_at from key m a h = by st.piece st.is.origin st.is.key st.is.around (stands_in from a h.is.inside st)
+      where
+        st : IsThere closed k.made.more (rules_of s.tree) a
+        st = k.made.pieces.each a h.is.contained
+
+        its : IsRuleAt k.made.more st.rule h.is.unfilled.rule
+        its = rule_there a.rule h.is.unfilled.rule.number (record { at = h.is.unfilled.rule; there = h.is.unfilled.there; same = refl }) st.rule st.there
+
+        by : (p : Piece) → MayBeClosed (closed st.rule) k.made.more p a.origin → IsClosedKey (closed st.rule) k.made.more p a.key → AreRoundIt p a.around → ((r : Around) → AreRound r a.around → StandsIn (rules_of s.tree) (IsNameOfType s terms nodes) y (option_map spot from) r p (spot a)) → IsUnfilledAt (rules_of s.tree) (IsNameOfType s terms nodes) closed y (option_map spot from) key m (spot a)
+        by (a_value r q z) d g b there = record {
+          around = r;
+          key_piece = q;
+          types = z;
+          stands = there r b;
+          is_key = named_piece (spot a) st.rule st.there q h.key_origin key h.key_there (origin_of k.made.more q a.key h.key_origin g h.is.same);
+          value = led_to m h.origin h.there;
+          rule = st.rule;
+          there = st.there;
+          generic = sym its.generic ∙ h.is.unfilled.generic;
+          other = λ f. h.is.unfilled.other (k.made.distinct h.is.unfilled.rule.number n y (its.number ∙ ap Some f) e);
+        }
+        by (a_key r q) d g b there = absurd (some_none (sym h.is.typed.1 ∙ place_alone k.made.more d refl))
+        by (a_type z) d g b there = absurd (some_none (sym h.is.same ∙ g))
+        by (a_word w) d g b there = absurd (some_none (sym h.is.same ∙ g))
+        by (a_member o z) d g b there = absurd (some_none (sym h.is.same ∙ g))
+        by (an_entry o j i e) d g b there = absurd (some_none (sym h.is.same ∙ g))
+
     key_at : (from : Option PieceAt) (key : TypeId) (a : PieceAt) → IsKeyIn x n from key a → IsKeyAt (rules_of s.tree) (IsNameOfType s terms nodes) closed y (option_map spot from) key (spot a)
     key_at from key a h = by st.piece st.is.origin st.is.key st.is.around (stands_in from a h.inside st)
       where
@@ -652,19 +697,15 @@ module _ (s : Sense) (terms : Table) (nodes : Nodes) (x : TypesInText) (closed :
     one_at from m a (by_type t) = of_one_type (type_at from m a t)
     one_at from m a (by_key {key = i} h) = of_key (key_at from i a h)
 
-    pair_at : (from : Option PieceAt) (first second : Link) (a : PieceAt) → ArePairIn x n from first second a → ArePairAt (rules_of s.tree) (IsNameOfType s terms nodes) closed y (option_map spot from) first second (spot a)
-    pair_at from first second a (by_value v) = of_value (value_at from first second a v)
-    pair_at from first second a (by_entry {k = j} {i = i} e) = of_entry (entry_at from j i a e)
-
     -- what stands there is found
 
-    found_at : (from : Option PieceAt) (p : Piece) (at : Spot) → StandsAt (rules_of s.tree) (IsNameOfType s terms nodes) y (option_map spot from) p at → (a : PieceAt) × Contains x.pieces.items a × IsFrom x n from a × (r : S.Rule) × (slice_get (rules_of s.tree) at.rule ≡ Some r) × IsClosedPiece (closed r) k.made.more p a
+    found_at : (from : Option PieceAt) (p : Piece) (at : Spot) → StandsAt (rules_of s.tree) (IsNameOfType s terms nodes) y (option_map spot from) p at → (a : PieceAt) × Contains x.pieces.items a × IsFrom x n from a × (r : S.Rule) × (slice_get (rules_of s.tree) at.rule ≡ Some r) × IsClosedPiece (closed r) k.made.more p a × (spot a ≡ at)
     found_at None p at h =
         let w = piece_there p at h.0 in
-        (w.0, w.1, rule_number w.0.rule at.rule n y h.0.rule (ap (λ (z : Spot). z.rule) w.2) h.0.there h.1 e, h.0.rule, h.0.there, w.3)
+        (w.0, w.1, rule_number w.0.rule at.rule n y h.0.rule (ap (λ (z : Spot). z.rule) w.2) h.0.there h.1 e, h.0.rule, h.0.there, w.3, w.2)
     found_at (Some o) p at h =
         let w = piece_there p at h.0 in
-        (w.0, w.1, subst (λ (z : Spot). IsWithin (spot o) z) (sym w.2) h.1, h.0.rule, h.0.there, w.3)
+        (w.0, w.1, subst (λ (z : Spot). IsWithin (spot o) z) (sym w.2) h.1, h.0.rule, h.0.there, w.3, w.2)
 
     type_in : (from : Option PieceAt) (m : Link) (at : Spot) → IsTypeAt (rules_of s.tree) (IsNameOfType s terms nodes) closed y (option_map spot from) m at → (a : PieceAt) × IsTypeIn x n from m a
     type_in from m at h =
@@ -673,15 +714,15 @@ module _ (s : Sense) (terms : Table) (nodes : Nodes) (x : TypesInText) (closed :
         (w.0, record { origin = o.0; there = o.1; is = record { contained = w.1; same = o.2 }; inside = w.2 })
 
     -- a key or a value, which have in a map what is round the map's group
-    found_in : (from : Option PieceAt) (r : Around) (p : Piece) (at : Spot) → ((m : Option Span) → AreRoundIt p m → AreRound r m) → StandsIn (rules_of s.tree) (IsNameOfType s terms nodes) y (option_map spot from) r p at → (a : PieceAt) × Contains x.pieces.items a × IsInMapFrom x n from a × (r : S.Rule) × (slice_get (rules_of s.tree) at.rule ≡ Some r) × IsClosedPiece (closed r) k.made.more p a
+    found_in : (from : Option PieceAt) (r : Around) (p : Piece) (at : Spot) → ((m : Option Span) → AreRoundIt p m → AreRound r m) → StandsIn (rules_of s.tree) (IsNameOfType s terms nodes) y (option_map spot from) r p at → (a : PieceAt) × Contains x.pieces.items a × IsInMapFrom x n from a × (r : S.Rule) × (slice_get (rules_of s.tree) at.rule ≡ Some r) × IsClosedPiece (closed r) k.made.more p a × (spot a ≡ at)
     found_in None r p at round (in_a_rule h g) = found_at None p at (h, g)
     found_in (Some o) r p at round (in_map h rule ends) =
         let w = piece_there p at h in
-        (w.0, w.1, in_its_brackets (ap (λ (z : Spot). z.rule) w.2 ∙ rule, ends_round o.span r w.0.around ends (round w.0.around w.3.around)), h.rule, h.there, w.3)
+        (w.0, w.1, in_its_brackets (ap (λ (z : Spot). z.rule) w.2 ∙ rule, ends_round o.span r w.0.around ends (round w.0.around w.3.around)), h.rule, h.there, w.3, w.2)
     found_in (Some o) r p at round (in_group {m = z} h g for) =
         let w = piece_there p at h in
         let m = spliced_in o g in
-        (w.0, w.1, in_its_group (body_in w.0 at.rule h.rule m.0 z r (ap (λ (v : Spot). v.rule) w.2) h.there m.1 for (round w.0.around w.3.around)) m.2, h.rule, h.there, w.3)
+        (w.0, w.1, in_its_group (body_in w.0 at.rule h.rule m.0 z r (ap (λ (v : Spot). v.rule) w.2) h.there m.1 for (round w.0.around w.3.around)) m.2, h.rule, h.there, w.3, w.2)
 
     value_in : (from : Option PieceAt) (key m : Link) (at : Spot) → IsValueAt (rules_of s.tree) (IsNameOfType s terms nodes) closed y (option_map spot from) key m at → (a : PieceAt) × IsValueIn x n from key m a
     value_in from key m at h =
@@ -690,6 +731,32 @@ module _ (s : Sense) (terms : Table) (nodes : Nodes) (x : TypesInText) (closed :
         let o = type_origin at w.3 w.4 p m h.is w.0.origin w.5.origin in
         let u = type_origin at w.3 w.4 h.key_piece key h.is_key w.0.key w.5.key in
         (w.0, record { key_origin = u.0; key_there = u.1; same = u.2; origin = o.0; there = o.1; is = record { contained = w.1; same = o.2 }; inside = w.2 })
+
+    unfilled_in : (from : Option PieceAt) (key m : Link) (at : Spot) → IsUnfilledAt (rules_of s.tree) (IsNameOfType s terms nodes) closed y (option_map spot from) key m at → (a : PieceAt) × IsUnfilledIn x n from key m a
+    unfilled_in from key m at h =
+        let p : Piece = a_value h.around h.key_piece h.types in
+        let w = found_in from h.around p at (λ o b. b) h.stands in
+        let u = type_origin at w.3 w.4 h.key_piece key h.is_key w.0.key w.5.key in
+        let v = led_from m h.value.0 h.value.1 in
+        let ra = k.made.rules.all at.rule h.rule h.there in
+        let told = k.made.rules.told at.rule ra.0 ra.1 in
+        let is : told.0 ≡ h.rule = one_of (slice_get (rules_of s.tree) at.rule) told.0 h.rule told.1 h.there in
+        let its : IsRuleAt k.made.more h.rule ra.0 = subst (λ (r : S.Rule). IsRuleAt k.made.more r ra.0) is told.2 in (
+          w.0,
+          record {
+            key_origin = u.0;
+            key_there = u.1;
+            origin = v.0;
+            there = v.1;
+            is = record {
+              contained = w.1;
+              typed = value_typed k.made.more w.5.origin h.around h.key_piece h.types refl;
+              same = u.2;
+              inside = w.2;
+              unfilled = record { rule = ra.0; there = ap (λ (z : Spot). slice_get x.rules.items z.rule) w.6 ∙ ra.1; generic = its.generic ∙ h.generic; other = λ f. h.other (same_some (sym its.number ∙ ap (slice_get k.made.more.texts) f ∙ e)) };
+            };
+          },
+        )
 
     key_in : (from : Option PieceAt) (key : TypeId) (at : Spot) → IsKeyAt (rules_of s.tree) (IsNameOfType s terms nodes) closed y (option_map spot from) key at → (a : PieceAt) × IsKeyIn x n from key a
     key_in from key at h =
@@ -701,8 +768,14 @@ module _ (s : Sense) (terms : Table) (nodes : Nodes) (x : TypesInText) (closed :
     one_in from m at (of_one_type t) = let w = type_in from m at t in (w.0, by_type w.1)
     one_in from m at (of_key {key = i} h) = let w = key_in from i at h in (w.0, by_key w.1)
 
+    pair_at : (from : Option PieceAt) (first second : Link) (a : PieceAt) → ArePairIn x n from first second a → ArePairAt (rules_of s.tree) (IsNameOfType s terms nodes) closed y (option_map spot from) first second (spot a)
+    pair_at from first second a (by_value v) = of_value (value_at from first second a v)
+    pair_at from first second a (by_unfilled none v) = of_unfilled (λ o g. let w = value_in from first second o g in none w.0 w.1) (unfilled_at from first second a v)
+    pair_at from first second a (by_entry {k = j} {i = i} e) = of_entry (entry_at from j i a e)
+
     pair_in : (from : Option PieceAt) (first second : Link) (at : Spot) → ArePairAt (rules_of s.tree) (IsNameOfType s terms nodes) closed y (option_map spot from) first second at → (a : PieceAt) × ArePairIn x n from first second a
     pair_in from first second at (of_value v) = let w = value_in from first second at v in (w.0, by_value w.1)
+    pair_in from first second at (of_unfilled none v) = let w = unfilled_in from first second at v in (w.0, by_unfilled (λ b g. none (spot b) (value_at from first second b g)) w.1)
     pair_in from first second at (of_entry {k = j} {i = i} e) = let w = entry_in from j i at e in (w.0, by_entry w.1)
 
     no_pair : (from : Option PieceAt) (m : Link) (ms : List Link) → AreNoPairIn x n from m ms → AreNoPair (rules_of s.tree) (IsNameOfType s terms nodes) closed y (option_map spot from) m ms

@@ -9,7 +9,7 @@ use Rattle.table_making.specs.declared.origin.TypeOrigin.TheVariants as T
 use Rattle.table_nodes.specs.declared.nodes.TypeId.{TypeId}
 use Rattle.type_links.specs.declared.link.Link.{Link}
 use Rattle.type_links.specs.declared.link.Link.TheVariants as L
-use Rattle.cddl_sources.specs.States.{AreNoEntry, ArePairIn, ArePassed, HasNoRule, HasNumber, IsAlternative, IsEntryInBody, IsEntryNamed, IsEntryOf, IsEntryOfName, IsEntryOfRule, IsEntryUnwrapped, IsEntryWithin, IsFoundAfter, IsFrom, IsKeyIn, IsKeyPlace, IsOneIn, IsRuleIn, IsOfOrigin, IsStarted, IsStateAfter, IsStateOf, IsTypeIn, IsInMapFrom, IsValueIn, LeadsIn, arrives, by_unwrapping, count_in, counted, named, of_entry, of_key, of_type, of_value, origin_at, passes, plain_name, to_one, to_pair, in_its_group, in_its_brackets, unwrapped_name, with_held, within}
+use Rattle.cddl_sources.specs.States.{AreNoEntry, ArePairIn, ArePassed, HasNoRule, HasNumber, IsAlternative, IsEntryInBody, IsEntryNamed, IsEntryOf, IsEntryOfName, IsEntryOfRule, IsEntryUnwrapped, IsEntryWithin, IsFoundAfter, IsFrom, IsKeyIn, IsKeyPlace, IsOneIn, IsRuleIn, IsOfOrigin, IsStarted, IsStateAfter, IsStateOf, IsTypeIn, IsInMapFrom, IsNoValue, IsUnfilledIn, IsUnfilledOf, IsValueIn, LeadsIn, arrives, by_unwrapping, count_in, counted, named, of_entry, of_key, of_type, of_unfilled, of_value, origin_at, passes, plain_name, to_one, to_pair, in_its_group, in_its_brackets, unwrapped_name, with_held, within}
 use Rattle.cddl_sources.specs.declared.piece.NameAt.{NameAt}
 use Rattle.cddl_sources.specs.declared.piece.PieceAt.{PieceAt}
 use Rattle.cddl_sources.specs.declared.place.State.{State}
@@ -122,6 +122,7 @@ entry_rule x (by_unwrapping h) g = (h.is.body.rule.at, h.is.body.rule.there)
 
 pair_rule : (x : TypesInText) (n : ℕ) {from : Option PieceAt} {first second : Link} {a : PieceAt} → ArePairIn x n from first second a → IfSome from (λ b. IsRuleIn x b.rule) → IsRuleIn x a.rule
 pair_rule x n (of_value v) g = map_rule x n _ _ v.inside g
+pair_rule x n (of_unfilled none v) g = map_rule x n _ _ v.is.inside g
 pair_rule x n (of_entry e) g = entry_rule x e g
 
 one_rule : (x : TypesInText) (n : ℕ) {from : Option PieceAt} {m : Link} {a : PieceAt} → IsOneIn x n from m a → IfSome from (λ b. IsRuleIn x b.rule) → IsRuleIn x a.rule
@@ -142,6 +143,7 @@ found_there x n ids o l = found_from x n l tt
 
 pair_piece : (x : TypesInText) (n : ℕ) {from : Option PieceAt} {first second : Link} {a : PieceAt} → ArePairIn x n from first second a → Contains x.pieces.items a
 pair_piece x n (of_value v) = v.is.contained
+pair_piece x n (of_unfilled none v) = v.is.contained
 pair_piece x n (of_entry (within h)) = h.contained
 pair_piece x n (of_entry (named h)) = h.is.is.contained
 pair_piece x n (of_entry (by_unwrapping h)) = h.is.contained
@@ -175,6 +177,12 @@ any_value x n from key id a {k = k} {o = o} there is_there is inside same = reco
 
 pub no_value : (x : TypesInText) (n : ℕ) (from : Option PieceAt) (key id : Link) (a : PieceAt) {k o : TypeOrigin} → origin_at x key ≡ Some k → origin_at x id ≡ Some o → ((b : PieceAt) → IsOfOrigin x o b → IsInMapFrom x n from b → b.key ≡ Some k → ⊥) → IsValueIn x n from key id a → ⊥
 no_value x n from key id a {k = k} {o = o} there is_there none h = none a (of_same x a h.origin o (same_some (sym h.there ∙ is_there)) h.is) h.inside (h.same ∙ ap Some (same_some (sym h.key_there ∙ there)))
+
+pub any_unfilled : (x : TypesInText) (n : ℕ) (from : Option PieceAt) (key id : Link) (a : PieceAt) {k o : TypeOrigin} → origin_at x key ≡ Some k → origin_at x id ≡ Some o → IsUnfilledOf x n from k a → IsUnfilledIn x n from key id a
+any_unfilled x n from key id a {k = k} {o = o} there is_there is = record { key_origin = k; key_there = there; origin = o; there = is_there; is = is }
+
+pub no_unfilled : (x : TypesInText) (n : ℕ) (from : Option PieceAt) (key id : Link) (a : PieceAt) {k : TypeOrigin} → origin_at x key ≡ Some k → ((b : PieceAt) → IsUnfilledOf x n from k b → ⊥) → IsUnfilledIn x n from key id a → ⊥
+no_unfilled x n from key id a {k = k} there none h = none a (subst (λ (o : TypeOrigin). IsUnfilledOf x n from o a) (same_some (sym h.key_there ∙ there)) h.is)
 
 pub any_key : (x : TypesInText) (n : ℕ) (from : Option PieceAt) (key : TypeId) (a : PieceAt) {o : TypeOrigin} → origin_at x (L.Type key) ≡ Some o → IsKeyPlace x o a → IsInMapFrom x n from a → IsKeyIn x n from key a
 any_key x n from key a {o = o} there is inside = record { origin = o; there = there; is = is; inside = inside }
@@ -297,28 +305,34 @@ unwrapped_number x around n k i a e h = subst (λ (m : ℕ). IsEntryInBody x m k
 
 -- what two links lead to together, by the forms that they have
 
-pub pair_value : (x : TypesInText) (n : ℕ) (from : Option PieceAt) (first second : Link) (a : PieceAt) {m : TypeId} → first ≡ L.Type m → ArePairIn x n from first second a → IsValueIn x n from first second a
-pair_value x n from first second a e (of_value v) = v
-pair_value x n from first second a e (of_entry h) = cc
+pub pair_value : (x : TypesInText) (n : ℕ) (from : Option PieceAt) (first second : Link) (a : PieceAt) {m : TypeId} → first ≡ L.Type m → ArePairIn x n from first second a → IsNoValue x n from first second a → ⊥
+pair_value x n from first second a e (of_value v) none = none.0 v
+pair_value x n from first second a e (of_unfilled other v) none = none.1 v
+pair_value x n from first second a e (of_entry h) none = cc
 
 pub pair_entry : (x : TypesInText) (n : ℕ) (from : Option PieceAt) (first second : Link) (a : PieceAt) {k i : ℕ} → first ≡ L.Alternative k → second ≡ L.Entry i → ArePairIn x n from first second a → IsEntryOf x from k i a
 pair_entry x n from first second a {k = k} e f (of_value v) = absurd (no_some (sym (ap (origin_at x) e) ∙ v.key_there))
+pair_entry x n from first second a {k = k} e f (of_unfilled none v) = absurd (no_some (sym (ap (origin_at x) e) ∙ v.key_there))
 pair_entry x n from first second a {i = i} e f (of_entry {k = l} {i = z} h) = subst (λ (j : ℕ). IsEntryOf x from j i a) (same_alternative e) (subst (λ (j : ℕ). IsEntryOf x from l j a) (same_place f) h)
 
 pub no_pair_entry : (x : TypesInText) (n : ℕ) (from : Option PieceAt) (first second : Link) (a : PieceAt) {i : ℕ} → first ≡ L.Entry i → ArePairIn x n from first second a → ⊥
 no_pair_entry x n from first second a e (of_value v) = no_some (sym (ap (origin_at x) e) ∙ v.key_there)
+no_pair_entry x n from first second a e (of_unfilled none v) = no_some (sym (ap (origin_at x) e) ∙ v.key_there)
 no_pair_entry x n from first second a e (of_entry h) = cc
 
 pub no_pair_type : (x : TypesInText) (n : ℕ) (from : Option PieceAt) (first second : Link) (a : PieceAt) {k : ℕ} {m : TypeId} → first ≡ L.Alternative k → second ≡ L.Type m → ArePairIn x n from first second a → ⊥
 no_pair_type x n from first second a e f (of_value v) = no_some (sym (ap (origin_at x) e) ∙ v.key_there)
+no_pair_type x n from first second a e f (of_unfilled none v) = no_some (sym (ap (origin_at x) e) ∙ v.key_there)
 no_pair_type x n from first second a e f (of_entry h) = cc
 
 pub no_pair_alternative : (x : TypesInText) (n : ℕ) (from : Option PieceAt) (first second : Link) (a : PieceAt) {k j : ℕ} → first ≡ L.Alternative k → second ≡ L.Alternative j → ArePairIn x n from first second a → ⊥
 no_pair_alternative x n from first second a e f (of_value v) = no_some (sym (ap (origin_at x) e) ∙ v.key_there)
+no_pair_alternative x n from first second a e f (of_unfilled none v) = no_some (sym (ap (origin_at x) e) ∙ v.key_there)
 no_pair_alternative x n from first second a e f (of_entry h) = cc
 
 pub no_pair_key : (x : TypesInText) (n : ℕ) (from : Option PieceAt) (first second : Link) (a : PieceAt) {m : TypeId} → first ≡ L.Key m → ArePairIn x n from first second a → ⊥
 no_pair_key x n from first second a e (of_value v) = no_some (sym (ap (origin_at x) e) ∙ v.key_there)
+no_pair_key x n from first second a e (of_unfilled none v) = no_some (sym (ap (origin_at x) e) ∙ v.key_there)
 no_pair_key x n from first second a e (of_entry h) = cc
 
 -- what one link leads to by itself, by the form that it has

@@ -1,6 +1,7 @@
 -- What the type of a piece is told as, by what it is of.
 use Rattle.std.proofs.Common.{◌≡◌, ◌∙◌, ℕ, Option, Some, None, slice_get, refl, sym, ap, subst}
 use Rattle.lists.proofs.Lemmas.{one_of, same_some, some_none}
+use Rattle.tree_nodes.specs.Syntax.Syntax as S
 use Rattle.cddl_language.specs.Language.{TypeName, type, word}
 use Rattle.cddl_language.specs.Reading.{term_of, text_of}
 use Rattle.cddl_language.specs.Terms.{Term, Text}
@@ -32,6 +33,13 @@ module _ (t : Table) where
   place_alone no_type e = refl
   place_alone may_be_group e = refl
   place_alone in_its_place e = refl
+
+  -- the type of a value is of something
+  pub value_typed : {f : Term → Term} {p : Piece} {o : Option TypeOrigin} → MayBeClosed f t p o → (r : Around) (q : Piece) (z : S.Types) → p ≡ a_value r q z → (u : TypeOrigin) × (o ≡ Some u)
+  value_typed (is_of {u = u} h) r q z e = (u, refl)
+  value_typed no_type r q z e = cc
+  value_typed may_be_group r q z e = cc
+  value_typed in_its_place r q z e = cc
 
   -- the name that an origin stands for
   pub data IsNameOf : TypeOrigin → TypeName → Type 0 where

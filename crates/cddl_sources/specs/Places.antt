@@ -10,7 +10,7 @@ use Rattle.type_links.specs.declared.link.Link.{Link}
 use Rattle.type_links.specs.declared.link.Link.TheVariants as L
 use Rattle.cddl_sources.specs.Instances.{has_arguments, term_in}
 use Rattle.cddl_sources.specs.Pieces.{Around, Called, Inner, Piece, a_key, a_member, a_value, alternatives_of, an_entry, brackets, in_rule, name_of_piece, name_there, plain, the_rule, told_name, tokens_of_piece, unwrapped}
-use Rattle.cddl_sources.specs.Spans.{IsNameSpan, IsSpan, IsWithin, Spot, body_tokens}
+use Rattle.cddl_sources.specs.Spans.{IsNameSpan, IsSpan, IsWithin, Spot, body_tokens, is_generic}
 use Rattle.cddl_sources.specs.declared.place.Place.{Place}
 use Rattle.cddl_sources.specs.declared.span.Span.{Span}
 
@@ -157,9 +157,24 @@ module _ (rules : List S.Rule) (names : TypeName → TypeId → Type 0) (closed 
     pub is_key : IsOf at key_piece key
     pub is : IsOf at (a_value around key_piece types) m
 
-  -- Two links lead there together: to the value's type in an entry, or to an entry.
+  -- the value's type in an entry of the map that has this type as its key, in a rule with parameters, whose arguments stand elsewhere
+  pub record IsUnfilledAt (n : Text) (from : Option Spot) (key m : Link) (at : Spot) : Type 0 where
+    pub around : Around
+    pub key_piece : Piece
+    pub types : S.Types
+    pub stands : StandsIn rules names n from around (a_value around key_piece types) at
+    pub is_key : IsOf at key_piece key
+    pub value : (y : TypeName) × LeadsTo names y m
+    pub rule : S.Rule
+    pub there : slice_get rules at.rule ≡ Some rule
+    pub generic : is_generic rule ≡ true
+    pub other : name_in rule ≡ n → ⊥
+
+  -- Two links lead there together: to the value's type in an entry, by the key alone only where no entry is known to have both; or to an
+  -- entry.
   pub data ArePairAt (n : Text) (from : Option Spot) : Link → Link → Spot → Type 0 where
     of_value : {key m : Link} {at : Spot} → IsValueAt n from key m at → ArePairAt n from key m at
+    of_unfilled : {key m : Link} {at : Spot} → ((o : Spot) → IsValueAt n from key m o → ⊥) → IsUnfilledAt n from key m at → ArePairAt n from key m at
     of_entry : {k i : ℕ} {at : Spot} → IsEntryAt rules names from k i at → ArePairAt n from (L.Alternative k) (L.Entry i) at
 
   -- One link leads there by itself: to a type, or to the key of an entry.

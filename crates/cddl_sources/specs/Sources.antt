@@ -23,15 +23,16 @@ use Rattle.cddl_sources.specs.Instances.{all_as_written}
 use Rattle.cddl_sources.specs.Origins.{ArePieces}
 use Rattle.cddl_sources.specs.Pieces.{alternatives_of}
 use Rattle.cddl_sources.specs.States.{name_number}
-use Rattle.cddl_sources.specs.Spans.{IsNameSpan, IsSpan, body_tokens}
+use Rattle.cddl_sources.specs.Spans.{IsNameSpan, IsSpan, body_tokens, is_generic}
 use Rattle.cddl_sources.specs.declared.sources.RuleAt.{RuleAt}
 use Rattle.cddl_sources.specs.declared.sources.Sources.{Sources}
 use Rattle.cddl_sources.specs.declared.sources.TypesInText.{TypesInText}
 
--- The number of the rule's name, how many alternatives it makes as a group, and where it has its name and its body.
+-- The number of the rule's name, how many alternatives it makes as a group, whether it has parameters, and where it has its name and its body.
 pub record IsRuleAt (t : Table) (r : S.Rule) (a : RuleAt) : Type 0 where
   pub number : slice_get t.texts a.number ≡ Some (name_in r)
   pub alternatives : a.alternatives ≡ alternatives_of r
+  pub generic : a.is_generic ≡ is_generic r
   pub name : IsNameSpan r a.name
   pub body : IsSpan (body_tokens r) a.body
 

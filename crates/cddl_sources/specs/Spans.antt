@@ -1,8 +1,8 @@
 -- Parts of a text by the offsets of their tokens.
-use Rattle.std.specs.Prelude.{◌≡◌, ℕ, ◌+◌, ◌≤◌, List, [], ◌∷◌, ◌++◌, Option, length}
+use Rattle.std.specs.Prelude.{◌≡◌, Bool, true, false, ℕ, ◌+◌, ◌≤◌, List, [], ◌∷◌, ◌++◌, Option, length}
 use Rattle.tree_nodes.specs.Syntax.Syntax as S
 use Rattle.tree_nodes.specs.View.{StartsAt}
-use Rattle.cddl_language.specs.Reading.{name_at, name_in}
+use Rattle.cddl_language.specs.Reading.{name_at, name_in, rule_head}
 use Rattle.cddl_sources.specs.Pieces.{Called, bare_types}
 use Rattle.cddl_sources.specs.declared.span.Span.{Span}
 
@@ -33,6 +33,15 @@ IsWithin o s = (s.rule ≡ o.rule) × (o.span.first ≤ s.span.first) × (s.span
 abbrev pub body_tokens : S.Rule → List S.Lexeme
 body_tokens (S.type_rule n a t) = S.flat_types (bare_types t)
 body_tokens (S.group_rule n a e) = S.flat_entry e
+
+-- whether the rule has parameters
+
+abbrev pub has_parameters : S.RuleName → Bool
+has_parameters (S.plain n) = false
+has_parameters (S.generic o p c) = true
+
+abbrev pub is_generic : S.Rule → Bool
+is_generic r = has_parameters (rule_head r)
 
 -- where the rule has its name
 pub record IsNameSpan (r : S.Rule) (s : Span) : Type 0 where

@@ -198,6 +198,37 @@ pub record IsValueIn (x : TypesInText) (n : ℕ) (from : Option PieceAt) (key m 
   pub is : IsOfOrigin x origin a
   pub inside : IsInMapFrom x n from a
 
+-- it is in a rule with parameters, and with another number
+pub record IsUnfilled (x : TypesInText) (n : ℕ) (a : PieceAt) : Type 0 where
+  pub rule : RuleAt
+  pub there : slice_get x.rules.items a.rule ≡ Some rule
+  pub generic : rule.is_generic ≡ true
+  pub other : rule.number ≡ n → ⊥
+
+-- it is of some type
+abbrev pub IsTyped : PieceAt → Type 0
+IsTyped a = (o : TypeOrigin) × (a.origin ≡ Some o)
+
+-- it is the value of an entry in such a rule whose key is of this origin
+pub record IsUnfilledOf (x : TypesInText) (n : ℕ) (from : Option PieceAt) (key : TypeOrigin) (a : PieceAt) : Type 0 where
+  pub contained : Contains x.pieces.items a
+  pub typed : IsTyped a
+  pub same : a.key ≡ Some key
+  pub inside : IsInMapFrom x n from a
+  pub unfilled : IsUnfilled x n a
+
+-- the same of the first type, where the other link is to a type too
+pub record IsUnfilledIn (x : TypesInText) (n : ℕ) (from : Option PieceAt) (key m : Link) (a : PieceAt) : Type 0 where
+  pub key_origin : TypeOrigin
+  pub key_there : origin_at x key ≡ Some key_origin
+  pub origin : TypeOrigin
+  pub there : origin_at x m ≡ Some origin
+  pub is : IsUnfilledOf x n from key_origin a
+
+-- it is neither the value of both types nor such a one
+abbrev pub IsNoValue : TypesInText → ℕ → Option PieceAt → (key m : Link) → PieceAt → Type 0
+IsNoValue x n from key m a = (IsValueIn x n from key m a → ⊥) × (IsUnfilledIn x n from key m a → ⊥)
+
 -- the entry has so many alternatives and entries after it
 pub record IsPlacedIn (alternative place : ℕ) (e : Option EntryAt) : Type 0 where
   pub entry : EntryAt
@@ -296,6 +327,7 @@ pub data IsEntryOf (x : TypesInText) : Option PieceAt → (alternative place : �
 -- two links lead to it together
 pub data ArePairIn (x : TypesInText) (n : ℕ) (from : Option PieceAt) : Link → Link → PieceAt → Type 0 where
   of_value : {key m : Link} {a : PieceAt} → IsValueIn x n from key m a → ArePairIn x n from key m a
+  of_unfilled : {key m : Link} {a : PieceAt} → ((b : PieceAt) → IsValueIn x n from key m b → ⊥) → IsUnfilledIn x n from key m a → ArePairIn x n from key m a
   of_entry : {k i : ℕ} {a : PieceAt} → IsEntryOf x from k i a → ArePairIn x n from (L.Alternative k) (L.Entry i) a
 
 -- one link leads to it by itself

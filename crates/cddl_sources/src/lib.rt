@@ -15,6 +15,7 @@ mod push;
 mod sources;
 mod span;
 mod spliced;
+mod unfilled;
 mod unwrapped;
 mod walk;
 mod written;

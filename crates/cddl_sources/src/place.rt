@@ -12,7 +12,7 @@ ghost use Rattle.type_links.specs.declared.link.Link.{Link as ALink};
 ghost use Rattle.cddl_sources.specs.Places.{IsOfNoRule, IsPlace};
 ghost use Rattle.cddl_sources.specs.Instances.{has_arguments, term_in};
 ghost use Rattle.cddl_sources.specs.Sources.{AreTypesOf};
-ghost use Rattle.cddl_sources.specs.States.{AreNoPairIn, ArePairIn, HasNoRule, HasNumber, AreSplicedFrom, IsAlternative, IsBetween, IsEntryNamed, IsEntryOf, IsEntryOfName, IsEntryThere, AreNoEntry, IsFoundAfter, IsFrom, IsInside, IsKeyIn, IsKeyPlace, IsNarrowed, IsOfLast, IsOfOrigin, IsOneIn, IsPlacedIn, IsRuleIn, IsStarted, IsStateAfter, IsStateOf, IsTold, IsTypeIn, IsInMapFrom, IsValueIn, LeadsIn, count_in, flattened, number_at, origin_at};
+ghost use Rattle.cddl_sources.specs.States.{AreNoPairIn, ArePairIn, HasNoRule, HasNumber, AreSplicedFrom, IsAlternative, IsBetween, IsEntryNamed, IsEntryOf, IsEntryOfName, IsEntryThere, AreNoEntry, IsFoundAfter, IsFrom, IsInside, IsKeyIn, IsKeyPlace, IsNarrowed, IsNoValue, IsOfLast, IsOfOrigin, IsOneIn, IsPlacedIn, IsRuleIn, IsStarted, IsStateAfter, IsStateOf, IsTold, IsTypeIn, IsInMapFrom, IsValueIn, LeadsIn, count_in, flattened, number_at, origin_at};
 ghost use Rattle.cddl_sources.specs.declared.piece.PieceAt.{PieceAt as Piece};
 
 use crate::piece::{EntryAt, PieceAt};
@@ -373,7 +373,8 @@ impl TypesInText {
         self.first_key(number, found, names, origin)
     }
 
-    // The first place of the value's type in an entry that has these types as its key and as its value.
+    // The first place of the value's type in an entry that has these types as its key and as its value; or where none is known to have
+    // both, of one with this key in a rule with parameters, whose arguments stand elsewhere.
     fn value_in(
         &self,
         alloc: Global,
@@ -382,11 +383,14 @@ impl TypesInText {
         key: Link,
         link: Link,
     ) -> Result<Option<PieceAt>, AllocError>
-        ensures some { IfOk result (λ o. IfSome o (IsValueIn self.now number found key link)) }
-        ensures none { IfOk result (λ o. IfNone o ((a : Piece) → IsValueIn self.now number found key link a → ⊥)) }
+        ensures some { IfOk result (λ o. IfSome o (ArePairIn self.now number found key link)) }
+        ensures none { IfOk result (λ o. IfNone o ((a : Piece) → IsNoValue self.now number found key link a)) }
     {
         let names = self.spliced_from(alloc, found)?;
-        Ok(self.value_by(number, found, &names, key, link))
+        match self.value_by(number, found, &names, key, link) {
+            Some(value) => Ok(Some(value)),
+            None => Ok(self.unfilled_by(number, found, &names, key, link)),
+        }
     }
 
     // The same, by the names of the groups whose entries are the map's.
@@ -582,7 +586,7 @@ impl TypesInText {
 
     // Whether the key or the value is in an entry of the map that was found before, of whose groups these are the names, or in a rule
     // with this number.
-    fn is_in_map_from(
+    pub(crate) fn is_in_map_from(
         &self,
         piece: PieceAt,
         number: u32,
@@ -683,7 +687,7 @@ fn is_key(piece: PieceAt, key: TypeOrigin) -> bool
 }
 
 // Whether it is the key of an entry that is of this, or the type of the value in such an entry.
-fn has_key(piece: PieceAt, key: TypeOrigin) -> bool
+pub(crate) fn has_key(piece: PieceAt, key: TypeOrigin) -> bool
     ensures { IsTrue result ↔ (piece.key ≡ Some key) }
 {
     match piece.key {

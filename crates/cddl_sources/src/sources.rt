@@ -4,7 +4,7 @@ ghost use Rattle.std.specs.Prelude.{◌≡◌, ◌++◌, [], ◌∷◌, IfOk, On
 ghost use Rattle.cddl_language.specs.Reading.{rules_of};
 ghost use Rattle.cddl_token.specs.declared.Token.{Token};
 ghost use Rattle.check_terms.specs.Table.{Grows};
-ghost use Rattle.tree_nodes.specs.View.{token_of, view, view_group, view_grpent, view_rule};
+ghost use Rattle.tree_nodes.specs.View.{token_of, view, view_group, view_grpent, view_name, view_rule};
 ghost use Rattle.tree_nodes.specs.declared.tree.Leaf.{Leaf};
 ghost use Rattle.cddl_table.specs.Ranks.{LeavesNoRankOut};
 ghost use Rattle.cddl_table.specs.Text.{IsTableOf};
@@ -12,6 +12,7 @@ ghost use Rattle.cddl_sources.specs.Instances.{all_as_written};
 ghost use Rattle.cddl_sources.specs.Origins.{ArePieces};
 ghost use Rattle.cddl_sources.specs.Pieces.{alternatives_of, count_of, own_count};
 ghost use Rattle.cddl_sources.specs.Sources.{AreRules, AreSourcesOf, IsRuleAt, IsTold, call_of};
+ghost use Rattle.cddl_sources.specs.Spans.{has_parameters};
 ghost use Rattle.cddl_sources.specs.States.{name_number};
 
 use crate::copies::copy_of;
@@ -29,7 +30,7 @@ use check_terms::{Definition, NoRoom, Terms, push};
 use std::alloc::{AllocError, Global};
 use table_making::TypeOrigin;
 use table_nodes::Table;
-use tree_nodes::{Group, GrpEnt, Rule, Tree};
+use tree_nodes::{Group, GrpEnt, Rule, RuleName, Tree};
 
 /// A rule of the text.
 #[derive(Clone, Copy)]
@@ -38,6 +39,8 @@ pub(crate) struct RuleAt {
     pub(crate) number: u32,
     // So many alternatives it makes as a group.
     pub(crate) alternatives: usize,
+    // Whether it has parameters.
+    pub(crate) is_generic: bool,
     pub(crate) name: Span,
     pub(crate) body: Span,
 }
@@ -221,6 +224,16 @@ fn push_rule(rules: &mut Vec<RuleAt>, rule: RuleAt) -> Result<(), NoRoom>
     }
 }
 
+// Whether a rule with this name has parameters.
+fn has_parameters(name: &RuleName) -> bool
+    ensures { (read : Leaf → Token) → result ≡ has_parameters (view_name read name.now) }
+{
+    match name {
+        RuleName::Plain(_) => false,
+        RuleName::Generic { .. } => true,
+    }
+}
+
 // How many alternatives a rule makes as a group.
 fn alternatives_of(rule: &Rule) -> Result<usize, NoRoom>
     ensures { (read : Leaf → Token) → IfOk result (λ n. n ≡ alternatives_of (view_rule read rule.now)) }
@@ -265,6 +278,7 @@ fn rule_at<'s>(terms: &mut Terms<'s>, tree: &Tree<'s>, rule: &Rule) -> Result<Ru
         Some(name) => Ok(RuleAt {
             number,
             alternatives: alternatives_of(rule)?,
+            is_generic: has_parameters(head_of(rule)),
             name,
             body: body_span(tree, rule),
         }),
