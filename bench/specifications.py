@@ -17,7 +17,7 @@ too, by 1,000 pairs against 1,000 keys, and by 10,000 and 20,000 pairs against 1
 
 A stream of messages with one signature, whose protected headers are in a byte string, is read against the
 specification in examples/cose_sign1.cddl and against 'any', as the arrays are. The last streams are byte strings of two
-sizes: one with a large array in it, one with a sequence of many items, and 20, since one takes no longer than the program's
+sizes: one with a large array in it, one with a sequence of many items, and 60, since one takes no longer than the program's
 start, with a string in a string and so on, 100 levels of them. The columns: the ratio of the processor time for the larger one to that for a stream of what
 is read in it, against 'any'; the growth of the processor time; and the peak memory for each byte of the item.
 
@@ -202,14 +202,21 @@ def written(folder, name, content):
     return path
 
 
+def longer(path, parts):
+    """The same file by a path with so many parts more."""
+    folder, name = os.path.split(path)
+    return os.path.join(folder, *["."] * parts, name)
+
+
 def least_times(program, specifications, paths):
     """For each stream and each specification the least processor time of several runs, in turns: other work on the machine only
-    adds to a time, so the least is the nearest."""
+    adds to a time, so the least is the nearest. Each run names the stream by a longer path, since it lies with the length of what
+    the program keeps first whether the C library gives its heap back to the system behind each item, and takes it anew."""
     times = [dict.fromkeys(specifications, float("inf")) for _ in paths]
-    for _ in range(2 * RUNS):
+    for run in range(2 * RUNS):
         for path, found in zip(paths, times):
             for name, specification in specifications.items():
-                taken, _ = spent([program, "validate", specification, path])
+                taken, _ = spent([program, "validate", specification, longer(path, 8 * run)])
                 found[name] = min(found[name], taken)
     return times
 
@@ -318,7 +325,7 @@ def byte_strings(program, folder):
     for name, make, sizes, items, text in (
         ("an array of 16 MiB by .cbor", held_array, (8 << 20, 16 << 20), 1, "r = bstr .cbor any\n"),
         ("a million numbers by .cborseq", held_sequence, (500_000, 1_000_000), 1, "r = bstr .cborseq [* uint]\n"),
-        (f"{LEVELS} strings in each other, of 32 KiB", held_strings, (16 * KIB, 32 * KIB), 20, "t = int / bstr .cbor t\n"),
+        (f"{LEVELS} strings in each other, of 32 KiB", held_strings, (16 * KIB, 32 * KIB), 60, "t = int / bstr .cbor t\n"),
     ):
         specification = written(folder, "held.cddl", text)
         made = [make(size) for size in sizes]
