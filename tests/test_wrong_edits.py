@@ -1,5 +1,5 @@
 #!/usr/bin/env python3
-"""Tests of wrong_edits.py: of functions.py on a text, and of whole runs on a small repository that is made for it.
+"""Tests of wrong_edits.py: of functions.py and bare_lemmas.py on texts, and of whole runs on a small repository that is made for it.
 
     test_wrong_edits.py [--rt COMMAND]
 
@@ -13,6 +13,7 @@ import sys
 import tempfile
 import types
 
+from bare_lemmas import bare_lemmas
 from functions import functions_of
 from wrong_edits import is_refusal
 
@@ -28,6 +29,7 @@ pub mod right;
 ghost use Rattle.std.specs.Prelude.{◌≡◌, ◌<◌};
 ghost use Rattle.sample.specs.Bounds.{least, greatest};
 ghost use Rattle.sample.specs.More.{more};
+ghost use Rattle.sample.specs.Sums.{sum};
 
 /// A way of some steps.
 #[derive(Drop)]
@@ -109,6 +111,30 @@ pub fn three() -> u32
 {
     two() + one() + down(2)
 }
+
+/// The sum of two numbers.
+pub fn nine() -> u32
+    ensures { result ≡ sum }
+{
+    9
+}
+""",
+    "proofs/nine/Answers.antt": """\
+use Rattle.sample.proofs.Sums.{sum_is_nine}
+use Rattle.sample.proofs.nine.Goals as goal
+
+pub returns : goal.returns
+returns c = sum_is_nine
+""",
+    "proofs/Lib.antt": "pub mod Sums\n",
+    "proofs/Sums.antt": """\
+-- What the sum is.
+use Rattle.std.proofs.Common.{◌≡◌, refl}
+use Rattle.sample.specs.Sums.{sum}
+
+pub sum_is_nine : 9 ≡ sum
+unfolding sum
+sum_is_nine = refl
 """,
     "proofs/+down/Invariants.antt": """\
 use Rattle.sample.proofs.+down.Given as goal
@@ -116,7 +142,7 @@ use Rattle.sample.proofs.+down.Given as goal
 abbrev pub decreases-down : goal.decreases-down
 decreases-down l = l.count
 """,
-    "specs/Lib.antt": "pub mod Bounds\npub mod More\n",
+    "specs/Lib.antt": "pub mod Bounds\npub mod More\npub mod Sums\n",
     "specs/Bounds.antt": """\
 -- Two numbers.
 use Rattle.std.specs.Prelude.{ℕ}
@@ -134,6 +160,13 @@ use Rattle.sample.specs.Bounds.{least}
 
 abbrev pub more : ℕ
 more = least + 4
+""",
+    "specs/Sums.antt": """\
+-- A sum, of which a lemma says what it is.
+use Rattle.std.specs.Prelude.{ℕ, ◌+◌}
+
+unfoldable pub sum : ℕ
+sum = 4 + 5
 """,
     "src/left.rt": """\
 //! One side.
@@ -180,6 +213,9 @@ EDITS = {
     # the first is made in the function, which is right with it, and the second in a copy of it
     "right_as_it_was": ("src/right.rt", "    2", "    1 + 1", "NOT REFUSED"),
     "right_is_five": ("src/right.rt", "    2", "    5", "refused, as it must be"),
+    # of a function whose proof cites a lemma, which has none then: the first is right
+    "nine_by_two": ("src/lib.rt", "    9", "    8 + 1", "NOT REFUSED"),
+    "nine_is_eight": ("src/lib.rt", "    9", "    8", "refused, as it must be"),
     # of definitions, in copies of their laws
     "least_is_nine": ("specs/Bounds.antt", "least = 1", "least = 9", "refused, as it must be", "least_is_below"),
     "least_stays_below": ("specs/Bounds.antt", "least = 1", "least = 8", "NOT REFUSED", "least_is_below"),
@@ -231,6 +267,74 @@ mod inner {
 }
 """
 
+LEMMAS = """\
+-- Sums.
+use Rattle.std.proofs.Common.{◌≡◌, ℕ, ◌+◌}
+
+abbrev pub twice : ℕ → ℕ
+twice n = n + n
+
+pub one_more {ℓ} : (n : ℕ) →
+    n + 1 ≡ n + 1
+unfolding halved
+one_more zero = refl
+-- and behind it
+one_more (suc n) = by n
+  where
+    by : (n : ℕ) → n ≡ n
+    by n = refl
+
+module _ (n : ℕ)
+    (m : ℕ) where
+  record Both : Type 0 where
+    one : ℕ
+
+  both : Both
+  both = record {
+    one = n;
+  }
+
+  mutual
+    even : ℕ → ℕ
+    even n = odd n
+
+    odd : ℕ → ℕ
+    odd n = n
+
+halved : ℕ → ℕ
+halved n = n
+"""
+BARE_LEMMAS = """\
+-- Sums.
+use Rattle.std.proofs.Common.{◌≡◌, ℕ, ◌+◌}
+
+abbrev pub twice : ℕ → ℕ
+twice n = n + n
+
+pub one_more {ℓ} : (n : ℕ) →
+    n + 1 ≡ n + 1
+one_more = ?
+
+-- and behind it
+module _ (n : ℕ)
+    (m : ℕ) where
+  record Both : Type 0 where
+    one : ℕ
+
+  both : Both
+  both = ?
+
+  mutual
+    even : ℕ → ℕ
+    even = ?
+
+    odd : ℕ → ℕ
+    odd = ?
+
+halved : ℕ → ℕ
+halved n = n
+"""
+
 
 def run_on_functions():
     """Whether the functions of a text have their names, their lines and their cycles."""
@@ -261,6 +365,14 @@ def run_on_answers():
     return told == [True, False, True, True, False]
 
 
+def run_on_lemmas():
+    """Whether lemmas have a hole in the place of their clauses, and what others open keeps them."""
+    told = bare_lemmas({"proofs/OfSides/Sums.antt": LEMMAS, "proofs/side/Answers.antt": LEMMAS})
+    if told != {"proofs/OfSides/Sums.antt": BARE_LEMMAS}:
+        print(f"lemmas without their proofs are:\n{''.join(told.values())}", end="")
+    return told == {"proofs/OfSides/Sums.antt": BARE_LEMMAS}
+
+
 def write(folder, edits):
     """Writes a repository with the crate 'sample' and these of its edits."""
     shutil.rmtree(f"{folder}/crates", ignore_errors=True)
@@ -276,7 +388,7 @@ def write(folder, edits):
     with open(f"{folder}/crates.txt", "w", encoding="utf-8") as it:
         it.write("sample:\n")
     os.makedirs(f"{folder}/tests", exist_ok=True)
-    for name in ("wrong_edits.py", "functions.py", "law_copies.py"):
+    for name in ("wrong_edits.py", "bare_lemmas.py", "functions.py", "law_copies.py"):
         shutil.copy(f"{HERE}/{name}", f"{folder}/tests/{name}")
 
 
@@ -304,7 +416,7 @@ def run_tests(rt):
     """Runs all tests, and returns how many passed and failed."""
     with tempfile.TemporaryDirectory(prefix="wrong-test-") as folder:
         os.makedirs(f"{folder}/.git")
-        done = [run_on_functions(), run_on_answers(), run(rt, folder, list(EDITS)), run(rt, folder, list(BAD_EDITS))]
+        done = [run_on_functions(), run_on_answers(), run_on_lemmas(), run(rt, folder, list(EDITS)), run(rt, folder, list(BAD_EDITS))]
         done.append(run(rt, folder, []))
         done.append(run(rt, folder, ["near_is_halved", "least_is_nine"], anew=False))
     return sum(done), len(done) - sum(done)

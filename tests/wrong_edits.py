@@ -29,11 +29,12 @@ import tempfile
 from concurrent.futures import ThreadPoolExecutor, as_completed
 from contextlib import contextmanager
 
+from bare_lemmas import bare_lemmas
 from functions import CYCLE, HEAD, functions_of
 from law_copies import Laws
 
 TOP = os.path.dirname(os.path.dirname(os.path.abspath(__file__)))
-SCRIPT = ("functions.py", "law_copies.py", "wrong_edits.py")
+SCRIPT = ("bare_lemmas.py", "functions.py", "law_copies.py", "wrong_edits.py")
 # What tells one kit from another.
 OF_KIT = ("WHAT", "KIT-ID", "bin/rt", "bin/rtlib.py")
 # What was refused, where the kit keeps nothing.
@@ -74,6 +75,8 @@ NOTE = re.compile(r"note: \S+:\d+:\d+: ")
 IS_REFUSED = re.compile(r"no proof: expected |not proved(?!.*\bit (?:calls|passes) )")
 STANDS_ON = re.compile(r"not proved; it stands on `([^`]*)`")
 RESTS = re.compile(r"(?:no proof: |not proved; )(?:in .*: )?it (?:calls|passes) ")
+# The processor time of each check of a crate, by its name.
+TIMES = collections.defaultdict(list)
 
 
 def load_kit(command):
@@ -111,9 +114,9 @@ class ResultsOfKit:
         return found[1] if found and found[0] == self.kit.REFUSED else None
 
     def keep(self, crate, told):
-        """Keeps what was told of each of these edits, which are refused, unless a file that it rests on was changed meanwhile."""
-        for path, text in told.items():
-            if all(map(self.kept.is_untouched, [crate, *crate.below()])):
+        """Keeps what was told of each of these edits, which are refused, unless a file that they rest on was changed meanwhile."""
+        if all(map(self.kept.is_untouched, [crate, *crate.below()])):
+            for path, text in told.items():
                 self.kept.keep_tried(self.name(crate, path), self.kit.REFUSED, text)
 
 
@@ -212,6 +215,9 @@ class Trial:
         self.doubles = {it for it in paths if paths.count(it) > 1}
         self.words = {it: words_in(self.sources[it.file].split("\n")[it.opens : it.last + 1]) for it in self.functions}
         self.broken, self.over_whole = set(), set()
+        # the files of lemmas without the proofs in them, as far as checks can read them so
+        self.bare = {file: text for file, text in bare_lemmas(self.proofs).items() if text != self.proofs[file]}
+        self.is_ill = False
 
     def tells_of(self, function):
         """Whether the lines of a check tell what becomes of this function's body, whatever becomes of other bodies."""
@@ -309,10 +315,13 @@ class Trial:
         with these copies of laws beside them."""
         copies, edited = self.copies(beside), {it.function.group() for it in placed}
         bare = [it for it in self.functions if it.group() not in edited and self.can_be_bare(it)]
-        texts = self.of_laws.with_copies(by_law, self.with_copies(copies, placed, bare))
+        texts = self.of_laws.with_copies(by_law, {**self.bare, **self.with_copies(copies, placed, bare)})
         copies += [(it.edit, it.law, it.function()) for it in by_law]
         tried = {**{it.function: it for it in placed}, **{copy: edit for edit, _, copy in copies}}
         is_whole, found = self.check(texts, tried, kept, WITH_HOLES)
+        if self.is_ill:
+            self.bare, self.is_ill = {}, False
+            return self.try_over_bare(placed, beside, by_law, kept)
         if not is_whole:
             left = [[it for it in each if it not in self.broken] for each in (placed, beside)]
             is_again = bool(by_law) or left != [placed, beside]
@@ -480,6 +489,7 @@ class Trial:
         added = {file: text for each in silent.values() for file, text in each.items()}
         ran = checked(self.kit, self.crate, {**texts, **added}, flags, kept)
         lines = ran.stdout.rstrip("\n").split("\n")
+        self.is_ill = any(it.removeprefix("./").split(":")[0] in self.bare and ": error: " in it for it in lines)
         is_whole = ran.returncode in (0, 1) and lines[-1].startswith("only=") and not any(self.kit.unread(it, ()) for it in lines)
         if not is_whole:
             self.broken |= {functions.get(it) for it in at_fault(lines, texts, functions)} - {None}
@@ -544,9 +554,9 @@ class Trial:
 
 
 def checked(kit, crate, texts, flags, kept):
-    """Checks a copy of the crate with these texts, as the kit does, over what kept holds. A text's folder may be new, and a
-    file with None for a text goes."""
-    with tempfile.TemporaryDirectory(prefix="wrong-crate-") as room:
+    """Checks a copy of the crate with these texts, as the kit does, over what kept holds where it is given, and notes the
+    processor time. A text's folder may be new, and a file with None for a text goes."""
+    with tempfile.TemporaryDirectory(prefix="wrong-crate-") as room, tempfile.TemporaryFile("w+", errors="replace") as said:
         for part in kit.rtlib.PARTS:
             if os.path.isdir(f"{crate.folder}/{part}"):
                 shutil.copytree(f"{crate.folder}/{part}", f"{room}/{part}")
@@ -557,9 +567,13 @@ def checked(kit, crate, texts, flags, kept):
                 continue
             with open(f"{room}/{path}", "w", encoding="utf-8") as it:
                 it.write(text)
-        words = [kit.rtlib.RATTLE, "check", *crate.words(flags, keeps=False), "--incremental", kept]
-        how = {"cwd": room, "stdin": subprocess.DEVNULL, "stdout": subprocess.PIPE, "stderr": subprocess.STDOUT, "errors": "replace"}
-        return subprocess.run([*kit.rtlib.guarded(), *words], **how)
+        words = [kit.rtlib.RATTLE, "check", *crate.words(flags, keeps=False), *(["--incremental", kept] if kept else [])]
+        run = subprocess.Popen([*kit.rtlib.guarded(), *words], cwd=room, stdin=subprocess.DEVNULL, stdout=said, stderr=said)
+        _, status, used = os.wait4(run.pid, 0)
+        run.returncode = os.waitstatus_to_exitcode(status)
+        TIMES[crate.name].append(used.ru_utime + used.ru_stime)
+        said.seek(0)
+        return subprocess.CompletedProcess(words, run.returncode, said.read())
 
 
 def texts_below(folder, part, ending):
@@ -642,6 +656,7 @@ def run_wrong(rt, names=(), anew=False, with_inner=False, is_built=False):
     libraries below are looked after, unless they were built just now."""
     kit = load_kit(rt)
     kit.rtlib.guarded()
+    kit.checked = functools.partial(checked, kit)
     # (else it is made again on every way that leads to a crate)
     kit.rtlib.Crate.below = functools.lru_cache(maxsize=None)(kit.rtlib.Crate.below)
     every = kit.rtlib.crates_below(TOP)
@@ -654,10 +669,13 @@ def run_wrong(rt, names=(), anew=False, with_inner=False, is_built=False):
     lanes = min(MOST_AT_ONCE, kit.processors(), *(int(0.85 * kit.free() / kit.need(it)) for it in crates[:1]))
     passed = failed = 0
     with ThreadPoolExecutor(max(lanes, 1)) as pool, folder_of_run():
-        for it in as_completed([pool.submit(Trial(kit, crate, results, with_inner, is_built).run) for crate in crates]):
+        runs = {pool.submit(Trial(kit, it, results, with_inner, is_built).run): it.name for it in crates}
+        for it in as_completed(runs):
             for is_refused, text in it.result():
                 print(text, flush=True)
                 passed, failed = passed + is_refused, failed + (not is_refused)
+            if times := TIMES[runs[it]]:
+                print(f"{runs[it]}: {sum(times):.0f} processor seconds in {len(times)} check{'s' * (len(times) > 1)}", flush=True)
     return passed, failed
 
 
