@@ -14,8 +14,8 @@ each request for memory refused in turn, too (tests/run_memory.py). What a row e
 what the program printed. A call is named 'ROOM.NAME', mostly by the name of the function:
 
   stream_calls  item and device of cbor_item, read of cbor_read, form of read_items; match of table_nodes and cddl_match, session
-                and run of seq_run; validate of cddl
-  tool_calls    tool of command_line and cddl_tool
+                and run of seq_run
+  tool_calls    tool of command_line and cddl_tool; validate of cddl
   spec_calls    literal of cddl_literal, token of cddl_token, terms and texts of check_terms, value of check_literals::values and
                 cddl_literal::operators, names of check_names, prelude of check_reading, graph of graphs, parts of alternatives;
                 text and root: what the rooms of cddl_check tell of a text, and of what its root leads to; lesser and too_many;

@@ -2,7 +2,7 @@
 use crate::form_calls::Forming;
 use crate::read_calls::Reading;
 use crate::table_calls::Tables;
-use crate::{item_calls, validate_calls, write_calls};
+use crate::{item_calls, write_calls};
 use call_lines::{Answers, first};
 use std::alloc::{AllocError, Global};
 
@@ -36,7 +36,6 @@ impl Answers for Desk {
             "form" => self.forming.answer(name, words, out),
             "read" => self.reading.answer(name, words, out),
             "match" | "session" | "run" => self.tables.answer(room, name, words, out),
-            "validate" => validate_calls::answer(self.alloc, name, words, out),
             _ => out.push_str("no such call"),
         }
     }

@@ -1,5 +1,5 @@
-//! Answers calls over items and streams: of `cbor_item`, `cbor_read` and `read_items`; of `table_nodes`, `cddl_match` and
-//! `seq_run`; and of `cddl`.
+//! Answers calls over items and streams: of `cbor_item`, `cbor_read` and `read_items`; and of `table_nodes`, `cddl_match` and
+//! `seq_run`.
 #![tactic(auto)]
 
 mod desk;
@@ -14,7 +14,6 @@ mod session_calls;
 mod sessions;
 mod table_calls;
 mod tables;
-mod validate_calls;
 mod write_calls;
 
 use crate::desk::Desk;

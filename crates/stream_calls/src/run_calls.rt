@@ -45,7 +45,7 @@ pub(crate) fn answer(
     push_output(alloc, &output.into_inner(), out)
 }
 
-pub(crate) fn mode_of(name: &str) -> Mode {
+fn mode_of(name: &str) -> Mode {
     match name {
         "report" => Mode::Report,
         "rewrite" => Mode::Rewrite,
@@ -76,7 +76,7 @@ fn push_told(
 }
 
 // A line without its line feed.
-pub(crate) fn push_line(line: &[u8], out: &mut String) -> Result<(), AllocError> {
+fn push_line(line: &[u8], out: &mut String) -> Result<(), AllocError> {
     match line.split_last() {
         Some((b'\n', front)) => push_text(front, out),
         _ => out.push_str("no line"),
@@ -98,11 +98,7 @@ fn push_source(
 }
 
 // What was written: each line with ` / ` before it, or bytes where it is no text.
-pub(crate) fn push_output(
-    alloc: Global,
-    written: &[u8],
-    out: &mut String,
-) -> Result<(), AllocError> {
+fn push_output(alloc: Global, written: &[u8], out: &mut String) -> Result<(), AllocError> {
     match str::from_utf8(written) {
         Ok(text) if text.ends_with('\n') => push_lines(text, out),
         _ => {

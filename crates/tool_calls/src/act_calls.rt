@@ -68,6 +68,6 @@ pub(crate) fn push_read(alloc: Global, words: &str, out: &mut String) -> Result<
     }
 }
 
-fn root_of(word: &str) -> Option<&str> {
+pub(crate) fn root_of(word: &str) -> Option<&str> {
     if word == "-" { None } else { Some(word) }
 }

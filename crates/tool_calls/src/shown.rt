@@ -14,3 +14,26 @@ pub(crate) fn push_written(
         Err(_) => push_bytes(alloc, written, out),
     }
 }
+
+// The same of the output of a run: each line with ` / ` before it, or bytes where it is no text.
+pub(crate) fn push_output(
+    alloc: Global,
+    written: &[u8],
+    out: &mut String,
+) -> Result<(), AllocError> {
+    match str::from_utf8(written) {
+        Ok(text) if text.ends_with('\n') => push_lines(text, out),
+        _ => {
+            out.push_str(" / ")?;
+            push_bytes(alloc, written, out)
+        }
+    }
+}
+
+fn push_lines(text: &str, out: &mut String) -> Result<(), AllocError> {
+    for line in text.lines() {
+        out.push_str(" / ")?;
+        out.push_str(line)?;
+    }
+    Ok(())
+}
