@@ -11,7 +11,7 @@ use table_nodes::Table;
 // The words are the steps for each item, the limits, and the pieces.
 pub(crate) fn answer(
     alloc: Global,
-    table: Box<Table>,
+    table: &Table,
     name: &str,
     words: &str,
     out: &mut String,
@@ -23,21 +23,34 @@ pub(crate) fn answer(
     };
     match name {
         "feed" | "feed_one" => {
-            let mut session = Session::new(alloc, &table, limits, number(steps));
+            let mut session = Session::new(alloc, table, limits, number(steps));
             push_session(alloc, &mut session, name == "feed", words, out)
-        }
-        "owned_feed" | "owned_feed_one" | "owned_again" => {
-            let table = Arc::new(alloc, Box::into_inner(table))?;
-            let mut session = OwnedSession::new(alloc, table, limits, number(steps));
-            push_owned(alloc, &mut session, name, words, out)
         }
         "validate_pieces" => {
             let pieces = pieces_of(alloc, words)?;
-            let told = validate_pieces(alloc, &table, limits, number(steps), &pieces);
+            let told = validate_pieces(alloc, table, limits, number(steps), &pieces);
             push_validated(alloc, told, out)
         }
         _ => out.push_str("no such call"),
     }
+}
+
+// The same of a session that owns its table.
+pub(crate) fn answer_owned(
+    alloc: Global,
+    table: Box<Table>,
+    name: &str,
+    words: &str,
+    out: &mut String,
+) -> Result<(), AllocError> {
+    let (steps, words) = first(words);
+    let (limits, words) = limits_of(words);
+    let table = Arc::new(alloc, Box::into_inner(table))?;
+    let Some(limits) = limits else {
+        return out.push_str("no limits");
+    };
+    let mut session = OwnedSession::new(alloc, table, limits, number(steps));
+    push_owned(alloc, &mut session, name, words, out)
 }
 
 // The depth and the number of bytes that words begin with, where they are limits, and the words after them.

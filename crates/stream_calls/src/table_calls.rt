@@ -35,6 +35,7 @@ impl Tables {
             "flags" => match_calls::push_flags(self.alloc, words, out),
             "held" => match_calls::push_held(self.alloc, words, out),
             "types" | "groups" | "ranks" => self.keep(name, words, out),
+            "owned_feed" | "owned_feed_one" | "owned_again" => self.give(name, words, out),
             _ => self.ask(room, name, words, out),
         }
     }
@@ -51,9 +52,9 @@ impl Tables {
 
     // The table of what was kept, with this root.
     fn table(&self, root: &str) -> Result<Option<Box<Table>>, AllocError> {
-        let types = types_of(self.alloc, self.types.as_str())?;
-        let groups = groups_of(self.alloc, self.groups.as_str())?;
         let ranks = ranks_of(self.alloc, self.ranks.as_str())?;
+        let groups = groups_of(self.alloc, self.groups.as_str())?;
+        let types = types_of(self.alloc, self.types.as_str())?;
         match Table::new(types, groups, type_id(root), ranks) {
             Ok(table) => Ok(Some(Box::new(self.alloc, table.with_told(self.alloc)?)?)),
             Err(_) => Ok(None),
@@ -68,8 +69,17 @@ impl Tables {
         };
         match room {
             "match" => match_calls::answer(self.alloc, &table, name, words, out),
-            "session" => session_calls::answer(self.alloc, table, name, words, out),
+            "session" => session_calls::answer(self.alloc, &table, name, words, out),
             _ => run_calls::answer(self.alloc, &table, name, words, out),
+        }
+    }
+
+    // A call that takes the table of this root.
+    fn give(&self, name: &str, words: &str, out: &mut String) -> Result<(), AllocError> {
+        let (root, words) = first(words);
+        match self.table(root)? {
+            Some(table) => session_calls::answer_owned(self.alloc, table, name, words, out),
+            None => out.push_str("NotRanked"),
         }
     }
 }
