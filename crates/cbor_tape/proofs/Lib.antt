@@ -1,5 +1,6 @@
 mod Entries
 mod Leaves
+pub mod Lemmas
 mod Marks
 mod Members
 mod Pairs
