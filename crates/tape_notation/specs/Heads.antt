@@ -1,0 +1,35 @@
+-- Heads and forms that are surely in bytes.
+use Rattle.std.specs.Prelude.{◌≡◌, ℕ, ◌≤◌, List, ◌∷◌, ◌++◌, drop, length}
+use Rattle.cbor_data.specs.Forms.{ArgumentSize, head_in, FitsSize, Chunk, AreChunksOk, chunks_bytes, Form, IsOk, flat}
+
+-- a definite head of this major type with the argument n is in b at `at`
+pub record IsHeadAt (b : List ℕ) (at major n : ℕ) : Type 0 where
+  pub size : ArgumentSize
+  pub fits : FitsSize size n
+  pub after : List ℕ
+  pub is : drop at b ≡ head_in size major n ++ after
+
+abbrev pub HasHead : List ℕ → ℕ → Type 0
+HasHead b at = (major : ℕ) × (n : ℕ) × IsHeadAt b at major n
+
+-- n is the argument of the head of b at `at`, and the head ends at `start`
+abbrev pub IsReadAt : List ℕ → ℕ → ℕ → ℕ → Type 0
+IsReadAt b at n start = (major m : ℕ) → (h : IsHeadAt b at major m) → (n ≡ m) × (start ≤ length b) × (drop start b ≡ h.after)
+
+-- the form is in b at `at`
+pub record IsFormAt (b : List ℕ) (at : ℕ) (f : Form) : Type 0 where
+  pub ok : IsOk f
+  pub after : List ℕ
+  pub is : drop at b ≡ flat f ++ after
+
+abbrev pub HasForm : List ℕ → ℕ → Type 0
+HasForm b at = (f : Form) × IsFormAt b at f
+
+-- chunks of this major type are in b from `start` on, and a break after them
+pub record AreChunksFrom (major : ℕ) (b : List ℕ) (start : ℕ) (chunks : List Chunk) : Type 0 where
+  pub ok : AreChunksOk chunks
+  pub after : List ℕ
+  pub is : drop start b ≡ chunks_bytes major chunks ++ 255 ∷ after
+
+abbrev pub HaveChunks : ℕ → List ℕ → ℕ → Type 0
+HaveChunks major b start = (chunks : List Chunk) × AreChunksFrom major b start chunks

@@ -1,0 +1,14 @@
+//! The diagnostic notation of an item of CBOR (RFC 8949 section 8), from its bytes and its tape: no item is built.
+#![tactic(auto)]
+
+mod chunks;
+mod head;
+mod item;
+mod leaf;
+mod put;
+mod text;
+
+pub use crate::item::push_notation;
+
+#[cfg(test)]
+mod tests;

@@ -1,0 +1,168 @@
+//! The notation of items of every kind. The expected texts are those of docs/ITEMS.md for items of RFC 8949 appendix A, and what
+//! is written of the item in memory is the same.
+use crate::push_notation;
+use cbor_tape::{Entry, whole_tape};
+use item_nodes::diag;
+use read_items::whole::whole_item;
+use std::alloc::{AllocError, Global};
+
+// Whether the item at the front of the bytes has this notation, behind what is there before, from its tape and in memory.
+fn shows(alloc: Global, bytes: &[u8], text: &[u8]) -> Result<bool, AllocError> {
+    if bytes.len() > 512 {
+        return Ok(false);
+    }
+    let mut tape = [Entry { head: 1, next: 1 }; 512];
+    let Some(end) = whole_tape(bytes, 32, &mut tape) else {
+        return Ok(false);
+    };
+    let mut line = Vec::from_slice(alloc, b"at 0: ")?;
+    push_notation(&mut line, bytes, end, &tape)?;
+    let mut wanted = Vec::from_slice(alloc, b"at 0: ")?;
+    wanted.extend_from_slice(text)?;
+    let Some((item, _)) = whole_item(alloc, bytes, 32)? else {
+        return Ok(false);
+    };
+    let held = diag(alloc, &item)?;
+    Ok(line.as_slice() == wanted.as_slice() && held.as_slice() == text)
+}
+
+#[test]
+fn numbers(rt: HostRuntime) -> Result<(), AllocError> {
+    let alloc = rt.alloc();
+    assert!(rt; shows(alloc, b"\x00\x00", b"0")?);
+    assert!(rt; shows(alloc, b"\x17", b"23")?);
+    assert!(rt; shows(alloc, b"\x18\x64", b"100")?);
+    assert!(rt; shows(alloc, b"\x19\x03\xe8", b"1000")?);
+    assert!(rt; shows(alloc, b"\x1a\x00\x0f\x42\x40", b"1000000")?);
+    assert!(rt;
+        shows(
+            alloc,
+            b"\x1b\xff\xff\xff\xff\xff\xff\xff\xff",
+            b"18446744073709551615"
+        )?
+    );
+    assert!(rt; shows(alloc, b"\x1b\x00\x00\x00\x00\x00\x00\x00\x05", b"5")?);
+    assert!(rt; shows(alloc, b"\x20", b"-1")?);
+    assert!(rt; shows(alloc, b"\x39\x03\xe7", b"-1000")?);
+    assert!(rt;
+        shows(
+            alloc,
+            b"\x3b\xff\xff\xff\xff\xff\xff\xff\xfe",
+            b"-18446744073709551615"
+        )?
+    );
+    assert!(rt;
+        shows(
+            alloc,
+            b"\x3b\xff\xff\xff\xff\xff\xff\xff\xff",
+            b"-18446744073709551616"
+        )?
+    );
+    Ok(())
+}
+
+#[test]
+fn strings(rt: HostRuntime) -> Result<(), AllocError> {
+    let alloc = rt.alloc();
+    assert!(rt; shows(alloc, b"\x40", b"h''")?);
+    assert!(rt; shows(alloc, b"\x44\x01\x02\xfe\xff", b"h'0102feff'")?);
+    assert!(rt; shows(alloc, b"\x58\x02\xab\xcd", b"h'abcd'")?);
+    assert!(rt;
+        shows(
+            alloc,
+            b"\x5f\x42\x01\x02\x40\x43\x03\x04\x05\xff",
+            b"h'0102030405'"
+        )?
+    );
+    assert!(rt; shows(alloc, b"\x5f\xff", b"h''")?);
+    assert!(rt; shows(alloc, b"\x60", b"\"\"")?);
+    assert!(rt; shows(alloc, b"\x64IETF", b"\"IETF\"")?);
+    assert!(rt; shows(alloc, b"\x62\"\\", b"\"\\\"\\\\\"")?);
+    assert!(rt; shows(alloc, b"\x65a\x00\x1f\x7fb", b"\"a\\u0000\\u001f\\u007fb\"")?);
+    assert!(rt; shows(alloc, b"\x62\xc3\xbc", b"\"\xc3\xbc\"")?);
+    assert!(rt;
+        shows(
+            alloc,
+            b"\x7f\x65strea\x61\n\x64ming\xff",
+            b"\"strea\\u000aming\""
+        )?
+    );
+    Ok(())
+}
+
+#[test]
+fn simple_values_and_floats(rt: HostRuntime) -> Result<(), AllocError> {
+    let alloc = rt.alloc();
+    assert!(rt; shows(alloc, b"\xe0", b"simple(0)")?);
+    assert!(rt; shows(alloc, b"\xf4", b"false")?);
+    assert!(rt; shows(alloc, b"\xf5", b"true")?);
+    assert!(rt; shows(alloc, b"\xf6", b"null")?);
+    assert!(rt; shows(alloc, b"\xf7", b"undefined")?);
+    assert!(rt; shows(alloc, b"\xf8\x20", b"simple(32)")?);
+    assert!(rt; shows(alloc, b"\xf8\xff", b"simple(255)")?);
+    assert!(rt; shows(alloc, b"\xf9\x3c\x00", b"f16'3c00'")?);
+    assert!(rt; shows(alloc, b"\xfa\x47\xc3\x50\x00", b"f32'47c35000'")?);
+    assert!(rt;
+        shows(
+            alloc,
+            b"\xfb\x3f\xf1\x99\x99\x99\x99\x99\x9a",
+            b"f64'3ff199999999999a'"
+        )?
+    );
+    Ok(())
+}
+
+#[test]
+fn containers(rt: HostRuntime) -> Result<(), AllocError> {
+    let alloc = rt.alloc();
+    assert!(rt; shows(alloc, b"\x80", b"[]")?);
+    assert!(rt;
+        shows(
+            alloc,
+            b"\x83\x01\x82\x02\x03\x82\x04\x05",
+            b"[1, [2, 3], [4, 5]]"
+        )?
+    );
+    assert!(rt;
+        shows(
+            alloc,
+            b"\x9f\x01\x82\x02\x03\x9f\x04\x05\xff\xff",
+            b"[1, [2, 3], [4, 5]]"
+        )?
+    );
+    assert!(rt; shows(alloc, b"\xa0", b"{}")?);
+    assert!(rt;
+        shows(
+            alloc,
+            b"\xa2\x61a\x01\x61b\x82\x02\x03",
+            b"{\"a\": 1, \"b\": [2, 3]}"
+        )?
+    );
+    assert!(rt;
+        shows(
+            alloc,
+            b"\xbf\x61a\x01\x61b\x9f\x02\x03\xff\xff",
+            b"{\"a\": 1, \"b\": [2, 3]}"
+        )?
+    );
+    assert!(rt; shows(alloc, b"\xa1\x01\xa1\x02\xc1\x80", b"{1: {2: 1([])}}")?);
+    assert!(rt; shows(alloc, b"\xc1\x1a\x51\x4b\x67\xb0", b"1(1363896240)")?);
+    assert!(rt; shows(alloc, b"\xd8\x20\xc1\x00", b"32(1(0))")?);
+    Ok(())
+}
+
+#[test]
+fn room_is_made_again(rt: HostRuntime) -> Result<(), AllocError> {
+    let alloc = rt.alloc();
+    // 400 times simple(19), of 12 bytes for each of the item's, with what parts them
+    let mut bytes = Vec::from_slice(alloc, b"\x99\x01\x90")?;
+    let mut text = Vec::from_slice(alloc, b"[simple(19)")?;
+    bytes.push(0xf3)?;
+    for _ in 0..399 {
+        bytes.push(0xf3)?;
+        text.extend_from_slice(b", simple(19)")?;
+    }
+    text.push(b']')?;
+    assert!(rt; shows(alloc, bytes.as_slice(), text.as_slice())?);
+    Ok(())
+}
