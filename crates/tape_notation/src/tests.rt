@@ -26,128 +26,114 @@ fn shows(alloc: Global, bytes: &[u8], text: &[u8]) -> Result<bool, AllocError> {
     Ok(line.as_slice() == wanted.as_slice() && held.as_slice() == text)
 }
 
+// Whether this holds of all of these items.
+fn all_shown(alloc: Global, items: &[(&[u8], &[u8])]) -> Result<bool, AllocError> {
+    for (bytes, text) in items {
+        if !shows(alloc, bytes, text)? {
+            return Ok(false);
+        }
+    }
+    Ok(true)
+}
+
 #[test]
 fn numbers(rt: HostRuntime) -> Result<(), AllocError> {
     let alloc = rt.alloc();
-    assert!(rt; shows(alloc, b"\x00\x00", b"0")?);
-    assert!(rt; shows(alloc, b"\x17", b"23")?);
-    assert!(rt; shows(alloc, b"\x18\x64", b"100")?);
-    assert!(rt; shows(alloc, b"\x19\x03\xe8", b"1000")?);
-    assert!(rt; shows(alloc, b"\x1a\x00\x0f\x42\x40", b"1000000")?);
-    assert!(rt;
-        shows(
-            alloc,
+    let items: [(&[u8], &[u8]); 11] = [
+        (b"\x00\x00", b"0"),
+        (b"\x17", b"23"),
+        (b"\x18\x64", b"100"),
+        (b"\x19\x03\xe8", b"1000"),
+        (b"\x1a\x00\x0f\x42\x40", b"1000000"),
+        (
             b"\x1b\xff\xff\xff\xff\xff\xff\xff\xff",
-            b"18446744073709551615"
-        )?
-    );
-    assert!(rt; shows(alloc, b"\x1b\x00\x00\x00\x00\x00\x00\x00\x05", b"5")?);
-    assert!(rt; shows(alloc, b"\x20", b"-1")?);
-    assert!(rt; shows(alloc, b"\x39\x03\xe7", b"-1000")?);
-    assert!(rt;
-        shows(
-            alloc,
+            b"18446744073709551615",
+        ),
+        (b"\x1b\x00\x00\x00\x00\x00\x00\x00\x05", b"5"),
+        (b"\x20", b"-1"),
+        (b"\x39\x03\xe7", b"-1000"),
+        (
             b"\x3b\xff\xff\xff\xff\xff\xff\xff\xfe",
-            b"-18446744073709551615"
-        )?
-    );
-    assert!(rt;
-        shows(
-            alloc,
+            b"-18446744073709551615",
+        ),
+        (
             b"\x3b\xff\xff\xff\xff\xff\xff\xff\xff",
-            b"-18446744073709551616"
-        )?
-    );
+            b"-18446744073709551616",
+        ),
+    ];
+    assert!(rt; all_shown(alloc, &items)?);
     Ok(())
 }
 
 #[test]
 fn strings(rt: HostRuntime) -> Result<(), AllocError> {
     let alloc = rt.alloc();
-    assert!(rt; shows(alloc, b"\x40", b"h''")?);
-    assert!(rt; shows(alloc, b"\x44\x01\x02\xfe\xff", b"h'0102feff'")?);
-    assert!(rt; shows(alloc, b"\x58\x02\xab\xcd", b"h'abcd'")?);
-    assert!(rt;
-        shows(
-            alloc,
+    let items: [(&[u8], &[u8]); 11] = [
+        (b"\x40", b"h''"),
+        (b"\x44\x01\x02\xfe\xff", b"h'0102feff'"),
+        (b"\x58\x02\xab\xcd", b"h'abcd'"),
+        (
             b"\x5f\x42\x01\x02\x40\x43\x03\x04\x05\xff",
-            b"h'0102030405'"
-        )?
-    );
-    assert!(rt; shows(alloc, b"\x5f\xff", b"h''")?);
-    assert!(rt; shows(alloc, b"\x60", b"\"\"")?);
-    assert!(rt; shows(alloc, b"\x64IETF", b"\"IETF\"")?);
-    assert!(rt; shows(alloc, b"\x62\"\\", b"\"\\\"\\\\\"")?);
-    assert!(rt; shows(alloc, b"\x65a\x00\x1f\x7fb", b"\"a\\u0000\\u001f\\u007fb\"")?);
-    assert!(rt; shows(alloc, b"\x62\xc3\xbc", b"\"\xc3\xbc\"")?);
-    assert!(rt;
-        shows(
-            alloc,
-            b"\x7f\x65strea\x61\n\x64ming\xff",
-            b"\"strea\\u000aming\""
-        )?
-    );
+            b"h'0102030405'",
+        ),
+        (b"\x5f\xff", b"h''"),
+        (b"\x60", b"\"\""),
+        (b"\x64IETF", b"\"IETF\""),
+        (b"\x62\"\\", b"\"\\\"\\\\\""),
+        (b"\x65a\x00\x1f\x7fb", b"\"a\\u0000\\u001f\\u007fb\""),
+        (b"\x62\xc3\xbc", b"\"\xc3\xbc\""),
+        (b"\x7f\x65strea\x61\n\x64ming\xff", b"\"strea\\u000aming\""),
+    ];
+    assert!(rt; all_shown(alloc, &items)?);
     Ok(())
 }
 
 #[test]
 fn simple_values_and_floats(rt: HostRuntime) -> Result<(), AllocError> {
     let alloc = rt.alloc();
-    assert!(rt; shows(alloc, b"\xe0", b"simple(0)")?);
-    assert!(rt; shows(alloc, b"\xf4", b"false")?);
-    assert!(rt; shows(alloc, b"\xf5", b"true")?);
-    assert!(rt; shows(alloc, b"\xf6", b"null")?);
-    assert!(rt; shows(alloc, b"\xf7", b"undefined")?);
-    assert!(rt; shows(alloc, b"\xf8\x20", b"simple(32)")?);
-    assert!(rt; shows(alloc, b"\xf8\xff", b"simple(255)")?);
-    assert!(rt; shows(alloc, b"\xf9\x3c\x00", b"f16'3c00'")?);
-    assert!(rt; shows(alloc, b"\xfa\x47\xc3\x50\x00", b"f32'47c35000'")?);
-    assert!(rt;
-        shows(
-            alloc,
+    let items: [(&[u8], &[u8]); 10] = [
+        (b"\xe0", b"simple(0)"),
+        (b"\xf4", b"false"),
+        (b"\xf5", b"true"),
+        (b"\xf6", b"null"),
+        (b"\xf7", b"undefined"),
+        (b"\xf8\x20", b"simple(32)"),
+        (b"\xf8\xff", b"simple(255)"),
+        (b"\xf9\x3c\x00", b"f16'3c00'"),
+        (b"\xfa\x47\xc3\x50\x00", b"f32'47c35000'"),
+        (
             b"\xfb\x3f\xf1\x99\x99\x99\x99\x99\x9a",
-            b"f64'3ff199999999999a'"
-        )?
-    );
+            b"f64'3ff199999999999a'",
+        ),
+    ];
+    assert!(rt; all_shown(alloc, &items)?);
     Ok(())
 }
 
 #[test]
 fn containers(rt: HostRuntime) -> Result<(), AllocError> {
     let alloc = rt.alloc();
-    assert!(rt; shows(alloc, b"\x80", b"[]")?);
-    assert!(rt;
-        shows(
-            alloc,
-            b"\x83\x01\x82\x02\x03\x82\x04\x05",
-            b"[1, [2, 3], [4, 5]]"
-        )?
-    );
-    assert!(rt;
-        shows(
-            alloc,
+    let items: [(&[u8], &[u8]); 9] = [
+        (b"\x80", b"[]"),
+        (b"\x83\x01\x82\x02\x03\x82\x04\x05", b"[1, [2, 3], [4, 5]]"),
+        (
             b"\x9f\x01\x82\x02\x03\x9f\x04\x05\xff\xff",
-            b"[1, [2, 3], [4, 5]]"
-        )?
-    );
-    assert!(rt; shows(alloc, b"\xa0", b"{}")?);
-    assert!(rt;
-        shows(
-            alloc,
+            b"[1, [2, 3], [4, 5]]",
+        ),
+        (b"\xa0", b"{}"),
+        (
             b"\xa2\x61a\x01\x61b\x82\x02\x03",
-            b"{\"a\": 1, \"b\": [2, 3]}"
-        )?
-    );
-    assert!(rt;
-        shows(
-            alloc,
+            b"{\"a\": 1, \"b\": [2, 3]}",
+        ),
+        (
             b"\xbf\x61a\x01\x61b\x9f\x02\x03\xff\xff",
-            b"{\"a\": 1, \"b\": [2, 3]}"
-        )?
-    );
-    assert!(rt; shows(alloc, b"\xa1\x01\xa1\x02\xc1\x80", b"{1: {2: 1([])}}")?);
-    assert!(rt; shows(alloc, b"\xc1\x1a\x51\x4b\x67\xb0", b"1(1363896240)")?);
-    assert!(rt; shows(alloc, b"\xd8\x20\xc1\x00", b"32(1(0))")?);
+            b"{\"a\": 1, \"b\": [2, 3]}",
+        ),
+        (b"\xa1\x01\xa1\x02\xc1\x80", b"{1: {2: 1([])}}"),
+        (b"\xc1\x1a\x51\x4b\x67\xb0", b"1(1363896240)"),
+        (b"\xd8\x20\xc1\x00", b"32(1(0))"),
+    ];
+    assert!(rt; all_shown(alloc, &items)?);
     Ok(())
 }
 
