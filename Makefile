@@ -55,6 +55,7 @@ bench: build lib
 	cd crates/cddl_outline && $(RT) run < /dev/null > /dev/null
 	@$(PYTHON) bench/tokens.py crates/cddl_outline/out/cddl_outline
 	@$(PYTHON) bench/specifications.py build/cddlseq
+	@$(PYTHON) bench/explanations.py build/cddlseq
 	@$(PYTHON) bench/limits.py build/cddlseq
 	@$(PYTHON) bench/package.py build/cddlseq build
 

@@ -34,7 +34,7 @@ type_of (M.OfAlternative es base ps) = []
 -- What of it is asked: the value of an entry, of which the key type is told; an alternative of a group, or an entry of such an
 -- alternative, by how many come after it.
 abbrev pub part_of : M.Pending TypeId GroupId → List Link
-part_of (M.InValue e es s) = L.Type e.key_type ∷ []
+part_of (M.InValue e es s) = L.Key e.key_type ∷ []
 part_of (M.InAlternatives gs base place xs far) = L.Alternative (length gs) ∷ []
 part_of (M.InSequence gs base far) = L.Entry (length gs) ∷ []
 part_of _ = []

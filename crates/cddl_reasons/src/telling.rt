@@ -49,7 +49,7 @@ fn push_key(links: &mut Vec<Link>, pending: &PendingMap<'_, '_>) -> Result<(), A
     ensures { IfOk result (λ _. links.new.items ≡ links.old.items ++ part_of (pending_map_view pending.now)) }
 {
     if let PendingMap::Value { entry, .. } = pending {
-        links.push(Link::Type(entry.key_type))?;
+        links.push(Link::Key(entry.key_type))?;
     }
     Ok(())
 }

@@ -47,4 +47,4 @@ module _ (f g : Term → Term) (e : (t : Term) → term_tree (f t) ≡ term_tree
   key_as (an_entry a k i e) o h = h
 
   pub piece_as : (p : Piece) (a : PieceAt) → IsClosedPiece f old p a → IsClosedPiece g new p a
-  piece_as p a h = record { origin = may_as p a.origin h.origin; key = key_as p a.key h.key; around = h.around; entry = h.entry; name = name_kept old new (name_there p) a.name more h.name; span = h.span }
+  piece_as p a h = record { origin = may_as p a.origin h.origin; key = key_as p a.key h.key; around = h.around; entry = h.entry; name = name_kept old new (name_there p) a.name more h.name; own = h.own; span = h.span }

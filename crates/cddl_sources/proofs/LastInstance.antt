@@ -33,7 +33,7 @@ use Rattle.cddl_sources.specs.declared.sources.Sources.{Sources}
 use Rattle.cddl_sources.specs.declared.sources.TypesInText.{TypesInText}
 use Rattle.cddl_sources.proofs.Closing.{piece_as}
 use Rattle.cddl_sources.proofs.Growing.{kept}
-use Rattle.cddl_sources.proofs.Standing.{an_instance, instance_name}
+use Rattle.cddl_sources.proofs.Naming.{an_instance, instance_name}
 
 module _ (x : TypesInText) where
   no_rule_here : (m : Link) → HasNoRule x m → HasRule x m → ⊥

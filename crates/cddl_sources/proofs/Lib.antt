@@ -13,6 +13,8 @@ mod Placing
 mod Calling
 mod Counting
 mod Told
+mod Naming
 mod Standing
+mod Telling
 mod Stepping
 mod Splicing

@@ -21,11 +21,11 @@ use Rattle.type_links.specs.declared.link.Link.TheVariants as L
 use Rattle.cddl_sources.specs.Instances.{has_arguments, term_in}
 use Rattle.cddl_sources.specs.Origins.{AreRound, AreRoundIt, IsClosedKey, IsClosedOrigin, IsClosedPiece, IsNumberOf, MayBeClosed, MayBeIn, Stands as IsThere, called_in, in_its_place, is_of, may_be_group, no_type, of_type, of_value as of_keyed, of_word as of_token}
 use Rattle.cddl_sources.specs.Pieces.{Around, Called, Piece, a_key, a_member, a_type, a_value, a_word, an_entry, brackets, in_rule, name_there, plain, the_rule, name_of_piece, told_name, tokens_of_piece, unwrapped}
-use Rattle.cddl_sources.specs.Places.{AreAlike, AreEnds, AreNoPair, ArePairAt, BeginsWithInstance, IsEntryAt, IsEntryNamed, IsEntryUnwrapped, IsEntryWithin, IsKeyAt, IsOf, IsOfNoRule, IsOneAt, IsPlace, IsShown, IsSpliced, IsTypeAt, IsUnfilledAt, IsValueAt, IsWritten, Leads, LeadsTo, Stands, StandsAt, StandsFor, StandsIn, a_piece, alone, are_ends, arrives, as_it_is, by_unwrapping, in_a_rule, in_another, in_group, in_map, itself, named, named_alone, named_in_group, named_in_map, of_entry, of_key, of_type as of_one_type, of_unfilled, of_value, passes, the_body, to_one, to_pair, within}
+use Rattle.cddl_sources.specs.Places.{AreAlike, AreEnds, AreNoPair, ArePairAt, BeginsWithInstance, IsEntryAt, IsEntryNamed, IsEntryUnwrapped, IsEntryWithin, IsKeyAt, IsOf, IsOfNoRule, IsOneAt, IsPlace, IsShown, IsSpliced, IsTypeAt, IsUnfilledAt, IsValueAt, IsWritten, Leads, LeadsTo, Stands, StandsAt, StandsFor, StandsIn, a_piece, alone, are_ends, arrives, as_it_is, by_unwrapping, in_a_rule, in_group, in_map, itself, named, named_alone, named_in_group, named_in_map, of_entry, of_key, of_type as of_one_type, of_unfilled, of_value, passes, the_body, to_one, to_pair, within, IsSought, IsValueAsked as IsValueAskedAt, elsewhere, of_asked, of_map, IsAskedIn as IsAskedAt, IsAway as IsAwayAt, as_before, of_argument, unfilled}
 use Rattle.cddl_sources.specs.Sources.{AreTypesOf, IsRuleAt}
-use Rattle.cddl_sources.specs.Spans.{IsNameSpan, IsSpan, IsWithin, Spot, body_tokens}
+use Rattle.cddl_sources.specs.Spans.{IsNameSpan, IsSpan, IsWithin, Spot, body_tokens, asking, plainly, is_generic}
 use Rattle.cddl_sources.specs.Walk.{called}
-use Rattle.cddl_sources.specs.States.{AreAlikeIn, AreNoPairIn, ArePairIn, ArePassed, HasNoRule, HasNumber, IsEntryNamed as IsNamedNumbers, IsEntryOf, IsEntryUnwrapped as IsUnwrappedNumbers, IsEntryWithin as IsWithinNumbers, IsFoundAfter, IsFrom, IsInBody, IsKeyIn, IsMember, IsOfLast, IsOneIn, IsSplicedIn, IsStateAfter, IsTold, IsTypeIn, IsInMapFrom, IsUnfilledIn, IsValueIn, IsWrittenIn, LeadsIn, alone as numbers_alone, arrives as by_none, as_it_is as by_itself, by_unwrapping as by_unwrapped, count_in, counted, ends_of, flattened, named as by_name, name_number, number_at, number_in, named_alone as numbered_alone, named_in_group as numbered_in_group, named_in_map as numbered_in_map, of_entry as by_entry, of_key as by_key, of_type as by_type, of_unfilled as by_unfilled, of_value as by_value, origin_at, passes as gone_by, text_in, to_one as by_one, to_pair as by_pair, in_another as by_another, itself as number_itself, in_its_group, in_its_brackets, plain_name, told_origin, unwrapped_name, within as by_brackets}
+use Rattle.cddl_sources.specs.States.{AreAlikeIn, AreNoPairIn, ArePairIn, ArePassed, HasNoRule, HasNumber, IsEntryNamed as IsNamedNumbers, IsEntryOf, IsEntryUnwrapped as IsUnwrappedNumbers, IsEntryWithin as IsWithinNumbers, IsFoundAfter, IsFrom, IsInBody, IsKeyIn, IsMember, IsOfLast, IsOneIn, IsSplicedIn, IsStateAfter, IsTold, IsTypeIn, IsInMapFrom, IsUnfilledIn, IsValueIn, IsWrittenIn, LeadsIn, alone as numbers_alone, arrives as by_none, as_it_is as by_itself, by_unwrapping as by_unwrapped, count_in, counted, ends_of, flattened, named as by_name, name_number, number_at, number_in, named_alone as numbered_alone, named_in_group as numbered_in_group, named_in_map as numbered_in_map, of_entry as by_entry, of_key as by_key, of_type as by_type, of_unfilled as by_unfilled, of_value as by_value, origin_at, passes as gone_by, text_in, to_one as by_one, to_pair as by_pair, itself as number_itself, in_its_group, in_its_brackets, plain_name, told_origin, unwrapped_name, within as by_brackets, IsValueAsked, asking as asking_at, elsewhere as by_elsewhere, if_filled, of_asked as by_asked, of_map as by_map, sought_by, IsAskedIn, IsAway, as_before as by_before, it_asks, it_is, unfilled as by_unfilled_rule, IsUnfilled}
 use Rattle.cddl_sources.specs.declared.piece.EntryAt.{EntryAt}
 use Rattle.cddl_sources.specs.declared.piece.NameAt.{NameAt}
 use Rattle.cddl_sources.specs.declared.piece.PieceAt.{PieceAt}
@@ -40,187 +40,16 @@ use Rattle.cddl_sources.proofs.Ending.{one_end, one_start}
 use Rattle.cddl_sources.proofs.Growing.{kept}
 use Rattle.cddl_sources.proofs.Stepping.{found_piece}
 use Rattle.cddl_sources.proofs.Told.{may_name, value_typed, one_name, one_origin, origin_of, piece_name, place_alone, told_by, told_with}
-
--- the name of a reference, by its row
-call_number : (t : Table) (n : ℕ) (q : Ref) → IsRef t n q → (k : ℕ) × (text_in (slice_get t.rows n) ≡ Some k) × (slice_get t.texts k ≡ Some (name_of q))
-call_number t n (call name ts) (part e (some_text {n = m} g) a b) = (m, ap text_in e, g)
+use Rattle.cddl_sources.proofs.Naming.{led_from, led_to, named_piece, named_rule, type_origin, value_is_of}
 
 -- the part of the text where a piece stands, with the name that it is, by its number
-abbrev spot_of : Table → PieceAt → Spot
-spot_of t a = record { rule = a.rule; span = a.span; name = text_at t a.name }
+abbrev pub spot_of : Table → PieceAt → Spot
+spot_of t a = record { rule = a.rule; span = a.span; name = text_at t a.name; asked = a.asked }
 
 module _ (s : Sense) (terms : Table) (nodes : Nodes) (x : TypesInText) (closed : S.Rule → Term → Term) (k : AreTypesOf closed s terms nodes x) where
-  -- an instance has the number of its name
-
-  pub instance_name : (i : ℕ) (q : Ref) → slice_get s.refs i ≡ Some q → (n : ℕ) × (slice_get x.numbers.items i ≡ Some (Some n)) × (slice_get k.made.more.texts n ≡ Some (name_of q))
-  instance_name i q f =
-      let w = k.are_meanings i q f in
-      let c = call_number terms w.0.call q w.2 in
-      let numbers : slice_get x.numbers.items i ≡ Some (Some c.0) =
-      ap (λ (ns : List (Option ℕ)). slice_get ns i) k.made.numbers
-      ∙ slice_get-map (name_number terms.rows) k.meanings i
-      ∙ ap (option_map (name_number terms.rows)) w.1
-      ∙ ap Some c.1 in
-      (c.0, numbers, k.made.grows.texts c.0 (name_of q) c.2)
-
-  type_number : (q : Ref) (m : TypeId) → IsNameOfType s terms nodes (reference q) m → (n : ℕ) × (number_at x (L.Type m) ≡ Some n) × (slice_get k.made.more.texts n ≡ Some (name_of q))
-  type_number q m h = by h.origin h.there h.named
-    where
-      by : (o : TypeOrigin) → slice_get nodes.type_origins.items m.number ≡ Some o → IsTypeOrigin s terms (reference q) o → (n : ℕ) × (number_at x (L.Type m) ≡ Some n) × (slice_get k.made.more.texts n ≡ Some (name_of q))
-      by o e (of_instance {k = i} f g) =
-          let c = instance_name i q f in
-          (c.0, ap (number_in x.numbers.items) (ap (λ os. slice_get os m.number) k.made.origins ∙ e) ∙ ap flattened c.1, c.2)
-
-  instance_number : (q : Ref) (m : Link) → LeadsTo (IsNameOfType s terms nodes) (reference q) m → (n : ℕ) × (number_at x m ≡ Some n) × (slice_get k.made.more.texts n ≡ Some (name_of q))
-  instance_number q (L.Type m) h = type_number q m h
-  instance_number q (L.Alternative i) h = absurd h
-  instance_number q (L.Entry i) h = absurd h
-  instance_number q (L.Key i) h = absurd h
-
-  -- what has the number of a name is an instance of it
-
-  type_of : (m : TypeId) (n : ℕ) → number_at x (L.Type m) ≡ Some n → (q : Ref) × IsNameOfType s terms nodes (reference q) m × (slice_get k.made.more.texts n ≡ Some (name_of q))
-  type_of m n e = by (slice_get x.origins.items m.number) refl e
-    where
-      is_of : (i : ℕ) (y : TypeName) → slice_get nodes.type_origins.items m.number ≡ Some (T.Instance i) → IsTypeOrigin s terms y (T.Instance i) → (q : Ref) × IsNameOfType s terms nodes (reference q) m × (slice_get k.made.more.texts n ≡ Some (name_of q))
-      is_of i y there (of_instance {r = q} f g) =
-          let named : IsNameOfType s terms nodes (reference q) m = record { origin = T.Instance i; there = there; named = of_instance f g } in
-          let c = type_number q m named in
-          (q, named, subst (λ (j : ℕ). slice_get k.made.more.texts j ≡ Some (name_of q)) (same_some (sym c.1 ∙ e)) c.2)
-
-      by : (o : Option TypeOrigin) → slice_get x.origins.items m.number ≡ o → number_in x.numbers.items o ≡ Some n → (q : Ref) × IsNameOfType s terms nodes (reference q) m × (slice_get k.made.more.texts n ≡ Some (name_of q))
-      by None f g = cc
-      by (Some (T.Row i)) f g = cc
-      by (Some (T.Chosen i)) f g = cc
-      by (Some (T.Word i)) f g = cc
-      by (Some (T.Instance i)) f g =
-          let there = ap (λ os. slice_get os m.number) (sym k.made.origins) ∙ f in
-          let named = k.are_nodes.types_named m.number (T.Instance i) there in
-          is_of i named.0 there named.1
-
-  instance_of : (m : Link) (n : ℕ) → number_at x m ≡ Some n → (q : Ref) × LeadsTo (IsNameOfType s terms nodes) (reference q) m × (slice_get k.made.more.texts n ≡ Some (name_of q))
-  instance_of (L.Type m) n e = type_of m n e
-  instance_of (L.Alternative i) n e = cc
-  instance_of (L.Entry i) n e = cc
-  instance_of (L.Key i) n e = cc
-
-  -- a rule with the number of a name has that name
-  named_rule : (i n : ℕ) (y : Text) → (h : HasNumber x i n) → slice_get k.made.more.texts n ≡ Some y → (r : S.Rule) × (slice_get (rules_of s.tree) i ≡ Some r) × IsRuleAt k.made.more r h.at × (name_in r ≡ y)
-  named_rule i n y h e =
-      let w = k.made.rules.told i h.at h.there in
-      (w.0, w.1, w.2, same_some (sym w.2.number ∙ ap (slice_get k.made.more.texts) h.same ∙ e))
-
-  pub no_rule : (m : Link) → HasNoRule x m → IsOfNoRule (rules_of s.tree) (IsNameOfType s terms nodes) m
-  no_rule m none r c i =
-      let n = instance_number i.0 m i.1 in
-      let at = place_of (rules_of s.tree) r c in
-      let a = k.made.rules.all at.0 r at.1 in
-      let w = k.made.rules.told at.0 a.0 a.1 in
-      let is : w.0 ≡ r = one_of (slice_get (rules_of s.tree) at.0) w.0 r w.1 at.1 in
-      let named : slice_get k.made.more.texts a.0.number ≡ Some (name_of i.0) = w.2.number ∙ ap Some (ap name_in is ∙ sym i.2) in
-      none n.0 at.0 n.1 (record { at = a.0; there = a.1; same = sym (k.made.distinct n.0 a.0.number (name_of i.0) n.2 named) })
-
-  -- what stands in the text with the origin of a type is what the type is of
-  type_named : (f : Term → Term) (p : Piece) (o : TypeOrigin) (id : TypeId) → slice_get x.origins.items id.number ≡ Some o → IsClosedOrigin f k.made.more p o → (y : TypeName) × (name_of_piece f p ≡ Some y) × IsNameOfType s terms nodes y id
-  type_named f p o id e h = by p o h there named.0 named.1
-    where
-      there : slice_get nodes.type_origins.items id.number ≡ Some o
-      there = ap (λ os. slice_get os id.number) (sym k.made.origins) ∙ e
-
-      named : (z : TypeName) × IsTypeOrigin s terms z o
-      named = k.are_nodes.types_named id.number o there
-
-      row : (y : S.Types) (n : ℕ) → IsTerm k.made.more n (f (term_of y)) → (z : TypeName) → IsTypeOrigin s terms z (T.Row n) → IsTypeOrigin s terms (type (f (term_of y))) (T.Row n)
-      row y n h z (of_row {x = v} g c w) = subst (λ (u : Term). IsTypeOrigin s terms (type u) (T.Row n)) (k.made.one_term n v (f (term_of y)) (kept k.made.grows g) h) (of_row g c w)
-
-      token : (y : Text) (n : ℕ) → slice_get k.made.more.texts n ≡ Some y → (z : TypeName) → IsTypeOrigin s terms z (T.Word n) → IsTypeOrigin s terms (word y) (T.Word n)
-      token y n h z (of_word {n = v} g) = subst (λ (u : Text). IsTypeOrigin s terms (word u) (T.Word n)) (one_of (slice_get k.made.more.texts n) v y (k.made.grows.texts n v g) h) (of_word g)
-
-      by : (p : Piece) (q : TypeOrigin) → IsClosedOrigin f k.made.more p q → slice_get nodes.type_origins.items id.number ≡ Some q → (z : TypeName) → IsTypeOrigin s terms z q → (y : TypeName) × (name_of_piece f p ≡ Some y) × IsNameOfType s terms nodes y id
-      by p q (of_type {x = y} {n = n} h) e z g = (type (f (term_of y)), refl, record { origin = q; there = e; named = row y n h z g })
-      by p q (of_token {w = w} {k = n} h) f z g = (word (text_of w), refl, record { origin = q; there = f; named = token (text_of w) n h z g })
-      by p q (of_keyed {x = y} {n = n} h) e z g = (type (f (term_of y)), refl, record { origin = q; there = e; named = row y n h z g })
-
-  named_piece : (at : Spot) (r : S.Rule) → slice_get (rules_of s.tree) at.rule ≡ Some r → (p : Piece) (o : TypeOrigin) (m : Link) → origin_at x m ≡ Some o → IsClosedOrigin (closed r) k.made.more p o → IsOf (rules_of s.tree) (IsNameOfType s terms nodes) closed at p m
-  named_piece at r there p o (L.Type m) e h = let w = type_named (closed r) p o m e h in (r, there, w.0, w.1, w.2)
-  named_piece at r there p o (L.Alternative i) e h = cc
-  named_piece at r there p o (L.Entry i) e h = cc
-  named_piece at r there p o (L.Key i) e h = cc
-
-  -- a link with an origin is to a type, and one to a type has an origin
-
-  led_to : (m : Link) (o : TypeOrigin) → origin_at x m ≡ Some o → (y : TypeName) × LeadsTo (IsNameOfType s terms nodes) y m
-  led_to (L.Type m) o e =
-      let there = ap (λ os. slice_get os m.number) (sym k.made.origins) ∙ e in
-      let named = k.are_nodes.types_named m.number o there in
-      (named.0, record { origin = o; there = there; named = named.1 })
-  led_to (L.Alternative i) o e = cc
-  led_to (L.Entry i) o e = cc
-  led_to (L.Key i) o e = cc
-
-  led_from : (m : Link) (y : TypeName) → LeadsTo (IsNameOfType s terms nodes) y m → (o : TypeOrigin) × (origin_at x m ≡ Some o)
-  led_from (L.Type m) y g = (g.origin, ap (λ os. slice_get os m.number) k.made.origins ∙ g.there)
-  led_from (L.Alternative i) y g = absurd g
-  led_from (L.Entry i) y g = absurd g
-  led_from (L.Key i) y g = absurd g
-
-  -- an origin that is an instance's is of a reference
-  pub an_instance : (m : Link) (i : ℕ) → origin_at x m ≡ Some (T.Instance i) → (q : Ref) × LeadsTo (IsNameOfType s terms nodes) (reference q) m × (slice_get s.refs i ≡ Some q)
-  an_instance (L.Alternative j) i e = cc
-  an_instance (L.Entry j) i e = cc
-  an_instance (L.Key j) i e = cc
-  an_instance (L.Type m) i e = is_of named.0 named.1
-    where
-      there : slice_get nodes.type_origins.items m.number ≡ Some (T.Instance i)
-      there = ap (λ os. slice_get os m.number) (sym k.made.origins) ∙ e
-
-      named : (n : TypeName) × IsTypeOrigin s terms n (T.Instance i)
-      named = k.are_nodes.types_named m.number (T.Instance i) there
-
-      is_of : (y : TypeName) → IsTypeOrigin s terms y (T.Instance i) → (q : Ref) × IsNameOfType s terms nodes (reference q) m × (slice_get s.refs i ≡ Some q)
-      is_of y (of_instance {r = q} f g) = (q, record { origin = T.Instance i; there = there; named = of_instance f g }, f)
-
-  begins : (ids : List Link) (b : Bool) → ArePassed x b ids → BeginsWithInstance (rules_of s.tree) (IsNameOfType s terms nodes) ids
-  begins ids true e = subst (BeginsWithInstance (rules_of s.tree) (IsNameOfType s terms nodes)) (sym e) tt
-  begins ids false h = subst (BeginsWithInstance (rules_of s.tree) (IsNameOfType s terms nodes)) (sym h.3) (let w = an_instance h.0 h.2 h.4 in (w.0, w.1))
-
-  -- what a type is of is of what stands in the text with its name
-  same_origin : (f : Term → Term) (p : Piece) (o : TypeOrigin) → IsClosedOrigin f k.made.more p o → (y : TypeName) (u : TypeOrigin) → name_of_piece f p ≡ Some y → IsTypeOrigin s terms y u → o ≡ u
-  same_origin f p o h y u e g = by p o h u (λ z d. subst (λ (w : TypeName). IsTypeOrigin s terms w u) (same_some (sym e ∙ d)) g)
-    where
-      row : (y : S.Types) (n : ℕ) → IsTerm k.made.more n (f (term_of y)) → (u : TypeOrigin) → IsTypeOrigin s terms (type (f (term_of y))) u → T.Row n ≡ u
-      row y n h u (of_row {n = j} g c w) = ap T.Row (k.made.one_row n j (f (term_of y)) h (kept k.made.grows g))
-
-      token : (y : Text) (n : ℕ) → slice_get k.made.more.texts n ≡ Some y → (u : TypeOrigin) → IsTypeOrigin s terms (word y) u → T.Word n ≡ u
-      token y n h u (of_word {k = j} g) = ap T.Word (k.made.distinct n j y h (k.made.grows.texts j y g))
-
-      by : (p : Piece) (o : TypeOrigin) → IsClosedOrigin f k.made.more p o → (u : TypeOrigin) → ((z : TypeName) → name_of_piece f p ≡ Some z → IsTypeOrigin s terms z u) → o ≡ u
-      by p o (of_type {x = y} {n = n} h) u g = row y n h u (g (type (f (term_of y))) refl)
-      by p o (of_token {w = w} {k = n} h) u g = token (text_of w) n h u (g (word (text_of w)) refl)
-      by p o (of_keyed {x = y} {n = n} h) u g = row y n h u (g (type (f (term_of y))) refl)
-
-  -- the type of a value is of one
-  value_is_of : {f : Term → Term} {p : Piece} {o : Option TypeOrigin} → MayBeClosed f k.made.more p o → o ≡ None → (r : Around) (q : Piece) (z : S.Types) → p ≡ a_value r q z → ⊥
-  value_is_of (is_of h) e r q z f = cc
-  value_is_of no_type e r q z f = cc
-  value_is_of may_be_group e r q z f = cc
-  value_is_of in_its_place e r q z f = cc
-
-  type_origin : (at : Spot) (r : S.Rule) → slice_get (rules_of s.tree) at.rule ≡ Some r → (p : Piece) (m : Link) → IsOf (rules_of s.tree) (IsNameOfType s terms nodes) closed at p m → (o : Option TypeOrigin) → MayBeClosed (closed r) k.made.more p o → (u : TypeOrigin) × (origin_at x m ≡ Some u) × (o ≡ Some u)
-  type_origin at r there p m h o d = by p m h.4 d (subst (λ (q : S.Rule). name_of_piece (closed q) p ≡ Some h.2) (one_of (slice_get (rules_of s.tree) at.rule) h.0 r h.1 there) h.3)
-    where
-      by : (p : Piece) (m : Link) → LeadsTo (IsNameOfType s terms nodes) h.2 m → {o : Option TypeOrigin} → MayBeClosed (closed r) k.made.more p o → name_of_piece (closed r) p ≡ Some h.2 → (u : TypeOrigin) × (origin_at x m ≡ Some u) × (o ≡ Some u)
-      by p (L.Alternative i) g d e = absurd g
-      by p (L.Entry i) g d e = absurd g
-      by p (L.Key i) g d e = absurd g
-      by p (L.Type m) g (is_of {u = v} d) e = (g.origin, ap (λ os. slice_get os m.number) k.made.origins ∙ g.there, ap Some (same_origin (closed r) p v d h.2 g.origin e g.named))
-      by p (L.Type m) g no_type e = absurd (no_some e)
-      by p (L.Type m) g may_be_group e = absurd (no_some e)
-      by p (L.Type m) g in_its_place e = absurd (no_some e)
-
   -- what is found stands there
 
-  abbrev spot : PieceAt → Spot
+  abbrev pub spot : PieceAt → Spot
   spot a = spot_of k.made.more a
 
   name_there_is : (o : Option Called) (m : Option NameAt) → IsNumberOf k.made.more o m → text_at k.made.more m ≡ o
@@ -228,15 +57,22 @@ module _ (s : Sense) (terms : Table) (nodes : Nodes) (x : TypesInText) (closed :
   name_there_is (Some y) m h = ap (text_at k.made.more) h.1 ∙ h.2
 
   abbrev stands : (a : PieceAt) → (st : IsThere closed k.made.more (rules_of s.tree) a) → Stands (rules_of s.tree) (IsNameOfType s terms nodes) st.piece (spot a)
-  stands a st = record { rule = st.rule; there = st.there; contained = st.contained; span = st.is.span; name = name_there_is (name_there st.piece) a.name st.is.name }
+  stands a st = record { rule = st.rule; there = st.there; contained = st.contained; span = st.is.span; name = name_there_is (name_there st.piece) a.name st.is.name; own = st.is.own }
 
   -- what stands there is found
+
+  abbrev pub plain_stands : (a : PieceAt) → (st : IsThere closed k.made.more (rules_of s.tree) a) → Stands (rules_of s.tree) (IsNameOfType s terms nodes) st.piece (plainly (spot a))
+  plain_stands a st = record { rule = st.rule; there = st.there; contained = st.contained; span = st.is.span; name = name_there_is (name_there st.piece) a.name st.is.name; own = refl }
 
   same_span : (a b : Span) → a.first ≡ b.first → a.end ≡ b.end → a ≡ b
   same_span a b e f = ap (λ (n : ℕ). record { first = n; end = a.end }) e ∙ ap (λ (n : ℕ). record { first = b.first; end = n }) f
 
-  same_spot : (a b : Spot) → a.rule ≡ b.rule → a.span ≡ b.span → a.name ≡ b.name → a ≡ b
-  same_spot a b e f g = ap (λ (n : ℕ). record { rule = n; span = a.span; name = a.name }) e ∙ ap (λ (z : Span). record { rule = b.rule; span = z; name = a.name }) f ∙ ap (λ (o : Option Called). record { rule = b.rule; span = b.span; name = o }) g
+  same_spot : (a b : Spot) → a.rule ≡ b.rule → a.span ≡ b.span → a.name ≡ b.name → a.asked ≡ b.asked → a ≡ b
+  same_spot a b e f g h =
+      ap (λ (n : ℕ). record { rule = n; span = a.span; name = a.name; asked = a.asked }) e
+      ∙ ap (λ (z : Span). record { rule = b.rule; span = z; name = a.name; asked = a.asked }) f
+      ∙ ap (λ (o : Option Called). record { rule = b.rule; span = b.span; name = o; asked = a.asked }) g
+      ∙ ap (λ (o : Option Link). record { rule = b.rule; span = b.span; name = b.name; asked = o }) h
 
   piece_there : (p : Piece) (at : Spot) → (h : Stands (rules_of s.tree) (IsNameOfType s terms nodes) p at) → (a : PieceAt) × Contains x.pieces.items a × (spot a ≡ at) × IsClosedPiece (closed h.rule) k.made.more p a
   piece_there p at h =
@@ -244,7 +80,7 @@ module _ (s : Sense) (terms : Table) (nodes : Nodes) (x : TypesInText) (closed :
       let first = one_start (tokens_of_piece p) a.0.span.first at.span.first a.3.span.starts h.span.starts in
       let end = one_end (tokens_of_piece p) a.0.span.end at.span.end a.3.span.ends h.span.ends in
       let name : text_at k.made.more a.0.name ≡ at.name = name_there_is (name_there p) a.0.name a.3.name ∙ sym h.name in
-      (a.0, a.1, same_spot (spot a.0) at a.2 (same_span a.0.span at.span first end) name, a.3)
+      (a.0, a.1, same_spot (spot a.0) at a.2 (same_span a.0.span at.span first end) name (a.3.own ∙ sym h.own), a.3)
 
   rules_like : AreLike (rules_of s.tree) (IsNameOfType s terms nodes) k.made.more k.made.distinct (rules_of s.tree) x.rules.items
   rules_like = record { told = k.made.rules.told; all = k.made.rules.all }
@@ -334,6 +170,7 @@ module _ (s : Sense) (terms : Table) (nodes : Nodes) (x : TypesInText) (closed :
             contained = subst (λ (w : ℕ). Contains (in_rule st.rule) (an_entry the_rule h.is.own w e)) place (subst (λ (w : ℕ). Contains (in_rule st.rule) (an_entry the_rule w z e)) alternative (subst (λ (r : S.Rule). Contains (in_rule r) (an_entry the_rule l z e)) is there.contained));
             span = there.span;
             name = there.name;
+            own = there.own;
           } in
           record {
             name = name_in st.rule;
@@ -562,6 +399,7 @@ module _ (s : Sense) (terms : Table) (nodes : Nodes) (x : TypesInText) (closed :
               contained = subst (λ (w : ℕ). Contains (in_rule st.rule) (an_entry r j w e)) place (subst (λ (w : ℕ). Contains (in_rule st.rule) (an_entry r w z e)) alternative (subst (λ (q : S.Rule). Contains (in_rule q) (an_entry r l z e)) is there.contained));
               span = there.span;
               name = there.name;
+              own = there.own;
             };
             stands_for = stands_for a (unwrapped_name h.is.name) st r h.is.body b;
           }
@@ -622,7 +460,7 @@ module _ (s : Sense) (terms : Table) (nodes : Nodes) (x : TypesInText) (closed :
   module _ (n : ℕ) (y : Text) (e : slice_get k.made.more.texts n ≡ Some y) where
     stands_at : (from : Option PieceAt) (a : PieceAt) → IsFrom x n from a → (st : IsThere closed k.made.more (rules_of s.tree) a) → StandsAt (rules_of s.tree) (IsNameOfType s terms nodes) y (option_map spot from) st.piece (spot a)
     stands_at None a h st =
-        let r = named_rule a.rule n y h e in
+        let r = named_rule s terms nodes x closed k a.rule n y h e in
         let same : st.rule ≡ r.0 = one_of (slice_get (rules_of s.tree) a.rule) st.rule r.0 st.there r.1 in
         (stands a st, ap name_in same ∙ r.3)
     stands_at (Some o) a h st = (stands a st, h)
@@ -630,54 +468,83 @@ module _ (s : Sense) (terms : Table) (nodes : Nodes) (x : TypesInText) (closed :
     type_at : (from : Option PieceAt) (m : Link) (a : PieceAt) → IsTypeIn x n from m a → IsTypeAt (rules_of s.tree) (IsNameOfType s terms nodes) closed y (option_map spot from) m (spot a)
     type_at from m a h =
         let st = k.made.pieces.each a h.is.contained in
-        record { piece = st.piece; stands = stands_at from a h.inside st; is = named_piece (spot a) st.rule st.there st.piece h.origin m h.there (origin_of k.made.more st.piece a.origin h.origin st.is.origin h.is.same) }
+        record { piece = st.piece; stands = stands_at from a h.inside st; is = named_piece s terms nodes x closed k (spot a) st.rule st.there st.piece h.origin m h.there (origin_of k.made.more st.piece a.origin h.origin st.is.origin h.is.same) }
 
     stands_in : (from : Option PieceAt) (a : PieceAt) → IsInMapFrom x n from a → (st : IsThere closed k.made.more (rules_of s.tree) a) (r : Around) → AreRound r a.around → StandsIn (rules_of s.tree) (IsNameOfType s terms nodes) y (option_map spot from) r st.piece (spot a)
     stands_in None a h st r b = let w = stands_at None a h st in in_a_rule w.0 w.1
     stands_in (Some o) a (in_its_brackets h) st r b = in_map (stands a st) h.0 (round_ends o.span r a.around b h.1)
     stands_in (Some o) a (in_its_group {n = m} h g) st r b = in_group (stands a st) (spliced_at o g (called m.is_unwrapped (name_in st.rule)) (body_called a m st h)) (stands_for a m st r h b)
 
-    value_at : (from : Option PieceAt) (key m : Link) (a : PieceAt) → IsValueIn x n from key m a → IsValueAt (rules_of s.tree) (IsNameOfType s terms nodes) closed y (option_map spot from) key m (spot a)
-    value_at from key m a h = by st.piece st.is.key st.is.around (stands_in from a h.inside st) (named_piece (spot a) st.rule st.there st.piece h.origin m h.there (origin_of k.made.more st.piece a.origin h.origin st.is.origin h.is.same))
+    value_at : (from : Option PieceAt) (key : TypeId) (m : Link) (a : PieceAt) → IsValueIn x n from key m a → IsValueAt (rules_of s.tree) (IsNameOfType s terms nodes) closed y (option_map spot from) key m (spot a)
+    value_at from key m a h = by st.piece st.is.key st.is.around (stands_in from a h.inside st) (named_piece s terms nodes x closed k (spot a) st.rule st.there st.piece h.origin m h.there (origin_of k.made.more st.piece a.origin h.origin st.is.origin h.is.same))
       where
         st : IsThere closed k.made.more (rules_of s.tree) a
         st = k.made.pieces.each a h.is.contained
 
         by : (p : Piece) → IsClosedKey (closed st.rule) k.made.more p a.key → AreRoundIt p a.around → ((r : Around) → AreRound r a.around → StandsIn (rules_of s.tree) (IsNameOfType s terms nodes) y (option_map spot from) r p (spot a)) → IsOf (rules_of s.tree) (IsNameOfType s terms nodes) closed (spot a) p m → IsValueAt (rules_of s.tree) (IsNameOfType s terms nodes) closed y (option_map spot from) key m (spot a)
-        by (a_value r q z) g b there is = record { around = r; key_piece = q; types = z; stands = there r b; is_key = named_piece (spot a) st.rule st.there q h.key_origin key h.key_there (origin_of k.made.more q a.key h.key_origin g h.same); is = is }
+        by (a_value r q z) g b there is = record { around = r; key_piece = q; types = z; stands = there r b; is_key = named_piece s terms nodes x closed k (spot a) st.rule st.there q h.key_origin (L.Type key) h.key_there (origin_of k.made.more q a.key h.key_origin g h.same); is = is }
         by (a_type z) g b there is = absurd (some_none (sym h.same ∙ g))
         by (a_word w) g b there is = absurd (some_none (sym h.same ∙ g))
         by (a_key r q) g b there is = absurd (no_some is.3)
         by (a_member o z) g b there is = absurd (some_none (sym h.same ∙ g))
         by (an_entry o j i e) g b there is = absurd (some_none (sym h.same ∙ g))
 
-    unfilled_at : (from : Option PieceAt) (key m : Link) (a : PieceAt) → IsUnfilledIn x n from key m a → IsUnfilledAt (rules_of s.tree) (IsNameOfType s terms nodes) closed y (option_map spot from) key m (spot a)
-    unfilled_at from key m a h = by st.piece st.is.origin st.is.key st.is.around (stands_in from a h.is.inside st)
+    -- a rule with parameters and of another name
+
+    unfilled_rule : (a : PieceAt) → IsUnfilled x n a → (r : S.Rule) × (slice_get (rules_of s.tree) a.rule ≡ Some r) × (is_generic r ≡ true) × (name_in r ≡ y → ⊥)
+    unfilled_rule a h =
+        let told = k.made.rules.told a.rule h.rule h.there in
+        (told.0, told.1, sym told.2.generic ∙ h.generic, λ f. h.other (k.made.distinct h.rule.number n y (told.2.number ∙ ap Some f) e))
+
+    unfilled_number : (a : PieceAt) (i : ℕ) (r : S.Rule) → a.rule ≡ i → slice_get (rules_of s.tree) i ≡ Some r → is_generic r ≡ true → (name_in r ≡ y → ⊥) → IsUnfilled x n a
+    unfilled_number a i r same there generic other =
+        let ra = k.made.rules.all i r there in
+        let told = k.made.rules.told i ra.0 ra.1 in
+        let is : told.0 ≡ r = one_of (slice_get (rules_of s.tree) i) told.0 r told.1 there in
+        let its : IsRuleAt k.made.more r ra.0 = subst (λ (z : S.Rule). IsRuleAt k.made.more z ra.0) is told.2 in
+        record { rule = ra.0; there = ap (slice_get x.rules.items) same ∙ ra.1; generic = its.generic ∙ generic; other = λ f. other (same_some (sym its.number ∙ ap (slice_get k.made.more.texts) f ∙ e)) }
+
+    unfilled_at : (from : Option PieceAt) (key : TypeId) (m : Link) (a : PieceAt) → IsUnfilledIn x n from key m a → IsUnfilledAt (rules_of s.tree) (IsNameOfType s terms nodes) closed y (option_map spot from) key m (spot a)
+    unfilled_at from key m b h = subst (λ (z : PieceAt). IsUnfilledAt (rules_of s.tree) (IsNameOfType s terms nodes) closed y (option_map spot from) key m (spot z)) (sym h.same) (by st.piece st.is.origin st.is.key st.is.around (λ r g. subst (StandsIn (rules_of s.tree) (IsNameOfType s terms nodes) y (option_map spot from) r st.piece) own (stands_in from a h.is.inside st r g)))
       where
+        a : PieceAt
+        a = h.piece
+
         st : IsThere closed k.made.more (rules_of s.tree) a
         st = k.made.pieces.each a h.is.contained
 
-        its : IsRuleAt k.made.more st.rule h.is.unfilled.rule
-        its = rule_there a.rule h.is.unfilled.rule.number (record { at = h.is.unfilled.rule; there = h.is.unfilled.there; same = refl }) st.rule st.there
+        own : spot a ≡ plainly (spot a)
+        own = same_spot (spot a) (plainly (spot a)) refl refl refl st.is.own
 
-        by : (p : Piece) → MayBeClosed (closed st.rule) k.made.more p a.origin → IsClosedKey (closed st.rule) k.made.more p a.key → AreRoundIt p a.around → ((r : Around) → AreRound r a.around → StandsIn (rules_of s.tree) (IsNameOfType s terms nodes) y (option_map spot from) r p (spot a)) → IsUnfilledAt (rules_of s.tree) (IsNameOfType s terms nodes) closed y (option_map spot from) key m (spot a)
+        rule : (r : S.Rule) × (slice_get (rules_of s.tree) a.rule ≡ Some r) × (is_generic r ≡ true) × (name_in r ≡ y → ⊥)
+        rule = unfilled_rule a h.is.unfilled
+
+        by : (p : Piece) → MayBeClosed (closed st.rule) k.made.more p a.origin → IsClosedKey (closed st.rule) k.made.more p a.key → AreRoundIt p a.around → ((r : Around) → AreRound r a.around → StandsIn (rules_of s.tree) (IsNameOfType s terms nodes) y (option_map spot from) r p (plainly (spot a))) → IsUnfilledAt (rules_of s.tree) (IsNameOfType s terms nodes) closed y (option_map spot from) key m (asking m (spot a))
         by (a_value r q z) d g b there = record {
           around = r;
           key_piece = q;
           types = z;
           stands = there r b;
-          is_key = named_piece (spot a) st.rule st.there q h.key_origin key h.key_there (origin_of k.made.more q a.key h.key_origin g h.is.same);
-          value = led_to m h.origin h.there;
-          rule = st.rule;
-          there = st.there;
-          generic = sym its.generic ∙ h.is.unfilled.generic;
-          other = λ f. h.is.unfilled.other (k.made.distinct h.is.unfilled.rule.number n y (its.number ∙ ap Some f) e);
+          asked = refl;
+          is_key = named_piece s terms nodes x closed k (asking m (spot a)) st.rule st.there q h.key_origin (L.Type key) h.key_there (origin_of k.made.more q a.key h.key_origin g h.is.same);
+          value = led_to s terms nodes x closed k m h.origin h.there;
+          rule = rule.0;
+          there = rule.1;
+          generic = rule.2;
+          other = rule.3;
         }
         by (a_key r q) d g b there = absurd (some_none (sym h.is.typed.1 ∙ place_alone k.made.more d refl))
         by (a_type z) d g b there = absurd (some_none (sym h.is.same ∙ g))
         by (a_word w) d g b there = absurd (some_none (sym h.is.same ∙ g))
         by (a_member o z) d g b there = absurd (some_none (sym h.is.same ∙ g))
         by (an_entry o j i e) d g b there = absurd (some_none (sym h.is.same ∙ g))
+
+    asked_place_at : (from : Option PieceAt) (m : Link) (a : PieceAt) → IsAskedIn x from m a → IsAskedAt (rules_of s.tree) (IsNameOfType s terms nodes) closed (option_map spot from) m (spot a)
+    asked_place_at from m a h = record { place = spot h.place; found = ap (option_map spot) h.found; value = led_to s terms nodes x closed k m h.origin h.there; is = ap spot h.same }
+
+    away_at : (a : PieceAt) → IsAway x n a → IsAwayAt (rules_of s.tree) (IsNameOfType s terms nodes) closed y (spot a)
+    away_at a (by_before {k = j} f) = as_before f
+    away_at a (by_unfilled_rule h) = let w = unfilled_rule a h in unfilled w.0 w.1 w.2 w.3
 
     key_at : (from : Option PieceAt) (key : TypeId) (a : PieceAt) → IsKeyIn x n from key a → IsKeyAt (rules_of s.tree) (IsNameOfType s terms nodes) closed y (option_map spot from) key (spot a)
     key_at from key a h = by st.piece st.is.origin st.is.key st.is.around (stands_in from a h.inside st)
@@ -686,16 +553,12 @@ module _ (s : Sense) (terms : Table) (nodes : Nodes) (x : TypesInText) (closed :
         st = k.made.pieces.each a h.is.contained
 
         by : (p : Piece) → MayBeClosed (closed st.rule) k.made.more p a.origin → IsClosedKey (closed st.rule) k.made.more p a.key → AreRoundIt p a.around → ((r : Around) → AreRound r a.around → StandsIn (rules_of s.tree) (IsNameOfType s terms nodes) y (option_map spot from) r p (spot a)) → IsKeyAt (rules_of s.tree) (IsNameOfType s terms nodes) closed y (option_map spot from) key (spot a)
-        by (a_key r q) d g b there = record { around = r; key_piece = q; stands = there r b; is = named_piece (spot a) st.rule st.there q h.origin (L.Type key) h.there (origin_of k.made.more q a.key h.origin g h.is.same) }
-        by (a_value r q z) d g b there = absurd (value_is_of d h.is.alone r q z refl)
+        by (a_key r q) d g b there = record { around = r; key_piece = q; stands = there r b; is = named_piece s terms nodes x closed k (spot a) st.rule st.there q h.origin (L.Type key) h.there (origin_of k.made.more q a.key h.origin g h.is.same) }
+        by (a_value r q z) d g b there = absurd (value_is_of s terms nodes x closed k d h.is.alone r q z refl)
         by (a_type z) d g b there = absurd (some_none (sym h.is.same ∙ g))
         by (a_word w) d g b there = absurd (some_none (sym h.is.same ∙ g))
         by (a_member o z) d g b there = absurd (some_none (sym h.is.same ∙ g))
         by (an_entry o j i e) d g b there = absurd (some_none (sym h.is.same ∙ g))
-
-    one_at : (from : Option PieceAt) (m : Link) (a : PieceAt) → IsOneIn x n from m a → IsOneAt (rules_of s.tree) (IsNameOfType s terms nodes) closed y (option_map spot from) m (spot a)
-    one_at from m a (by_type t) = of_one_type (type_at from m a t)
-    one_at from m a (by_key {key = i} h) = of_key (key_at from i a h)
 
     -- what stands there is found
 
@@ -710,7 +573,7 @@ module _ (s : Sense) (terms : Table) (nodes : Nodes) (x : TypesInText) (closed :
     type_in : (from : Option PieceAt) (m : Link) (at : Spot) → IsTypeAt (rules_of s.tree) (IsNameOfType s terms nodes) closed y (option_map spot from) m at → (a : PieceAt) × IsTypeIn x n from m a
     type_in from m at h =
         let w = found_at from h.piece at h.stands in
-        let o = type_origin at w.3 w.4 h.piece m h.is w.0.origin w.5.origin in
+        let o = type_origin s terms nodes x closed k at w.3 w.4 h.piece m h.is w.0.origin w.5.origin in
         (w.0, record { origin = o.0; there = o.1; is = record { contained = w.1; same = o.2 }; inside = w.2 })
 
     -- a key or a value, which have in a map what is round the map's group
@@ -724,58 +587,85 @@ module _ (s : Sense) (terms : Table) (nodes : Nodes) (x : TypesInText) (closed :
         let m = spliced_in o g in
         (w.0, w.1, in_its_group (body_in w.0 at.rule h.rule m.0 z r (ap (λ (v : Spot). v.rule) w.2) h.there m.1 for (round w.0.around w.3.around)) m.2, h.rule, h.there, w.3, w.2)
 
-    value_in : (from : Option PieceAt) (key m : Link) (at : Spot) → IsValueAt (rules_of s.tree) (IsNameOfType s terms nodes) closed y (option_map spot from) key m at → (a : PieceAt) × IsValueIn x n from key m a
+    value_in : (from : Option PieceAt) (key : TypeId) (m : Link) (at : Spot) → IsValueAt (rules_of s.tree) (IsNameOfType s terms nodes) closed y (option_map spot from) key m at → (a : PieceAt) × IsValueIn x n from key m a
     value_in from key m at h =
         let p : Piece = a_value h.around h.key_piece h.types in
         let w = found_in from h.around p at (λ m b. b) h.stands in
-        let o = type_origin at w.3 w.4 p m h.is w.0.origin w.5.origin in
-        let u = type_origin at w.3 w.4 h.key_piece key h.is_key w.0.key w.5.key in
+        let o = type_origin s terms nodes x closed k at w.3 w.4 p m h.is w.0.origin w.5.origin in
+        let u = type_origin s terms nodes x closed k at w.3 w.4 h.key_piece (L.Type key) h.is_key w.0.key w.5.key in
         (w.0, record { key_origin = u.0; key_there = u.1; same = u.2; origin = o.0; there = o.1; is = record { contained = w.1; same = o.2 }; inside = w.2 })
 
-    unfilled_in : (from : Option PieceAt) (key m : Link) (at : Spot) → IsUnfilledAt (rules_of s.tree) (IsNameOfType s terms nodes) closed y (option_map spot from) key m at → (a : PieceAt) × IsUnfilledIn x n from key m a
+    unfilled_in : (from : Option PieceAt) (key : TypeId) (m : Link) (at : Spot) → IsUnfilledAt (rules_of s.tree) (IsNameOfType s terms nodes) closed y (option_map spot from) key m at → (a : PieceAt) × IsUnfilledIn x n from key m a
     unfilled_in from key m at h =
         let p : Piece = a_value h.around h.key_piece h.types in
-        let w = found_in from h.around p at (λ o b. b) h.stands in
-        let u = type_origin at w.3 w.4 h.key_piece key h.is_key w.0.key w.5.key in
-        let v = led_from m h.value.0 h.value.1 in
-        let ra = k.made.rules.all at.rule h.rule h.there in
-        let told = k.made.rules.told at.rule ra.0 ra.1 in
-        let is : told.0 ≡ h.rule = one_of (slice_get (rules_of s.tree) at.rule) told.0 h.rule told.1 h.there in
-        let its : IsRuleAt k.made.more h.rule ra.0 = subst (λ (r : S.Rule). IsRuleAt k.made.more r ra.0) is told.2 in (
-          w.0,
+        let w = found_in from h.around p (plainly at) (λ o b. b) h.stands in
+        let u = type_origin s terms nodes x closed k at w.3 w.4 h.key_piece (L.Type key) h.is_key w.0.key w.5.key in
+        let v = led_from s terms nodes x closed k m h.value.0 h.value.1 in (
+          asking_at m w.0,
           record {
             key_origin = u.0;
             key_there = u.1;
             origin = v.0;
             there = v.1;
+            piece = w.0;
             is = record {
               contained = w.1;
               typed = value_typed k.made.more w.5.origin h.around h.key_piece h.types refl;
               same = u.2;
               inside = w.2;
-              unfilled = record { rule = ra.0; there = ap (λ (z : Spot). slice_get x.rules.items z.rule) w.6 ∙ ra.1; generic = its.generic ∙ h.generic; other = λ f. h.other (same_some (sym its.number ∙ ap (slice_get k.made.more.texts) f ∙ e)) };
+              unfilled = unfilled_number w.0 at.rule h.rule (ap (λ (z : Spot). z.rule) w.6) h.there h.generic h.other;
             };
+            same = refl;
           },
         )
+
+    asked_place_in : (from : Option PieceAt) (m : Link) (at : Spot) → IsAskedAt (rules_of s.tree) (IsNameOfType s terms nodes) closed (option_map spot from) m at → (a : PieceAt) × IsAskedIn x from m a
+    asked_place_in from m at h =
+        let w = around_in from h.place h.found in
+        let v = led_from s terms nodes x closed k m h.value.0 h.value.1 in
+        (asking_at m w.0, record { place = w.0; found = w.1; origin = v.0; there = v.1; same = refl })
+
+    away_in : (a : PieceAt) (at : Spot) → spot a ≡ at → IsAwayAt (rules_of s.tree) (IsNameOfType s terms nodes) closed y at → IsAway x n a
+    away_in a at same (as_before f) = by_before (ap (λ (z : Spot). z.asked) same ∙ f)
+    away_in a at same (unfilled r there generic other) = by_unfilled_rule (unfilled_number a at.rule r (ap (λ (z : Spot). z.rule) same) there generic other)
 
     key_in : (from : Option PieceAt) (key : TypeId) (at : Spot) → IsKeyAt (rules_of s.tree) (IsNameOfType s terms nodes) closed y (option_map spot from) key at → (a : PieceAt) × IsKeyIn x n from key a
     key_in from key at h =
         let w = found_in from h.around (a_key h.around h.key_piece) at (λ m b. b) h.stands in
-        let u = type_origin at w.3 w.4 h.key_piece (L.Type key) h.is w.0.key w.5.key in
+        let u = type_origin s terms nodes x closed k at w.3 w.4 h.key_piece (L.Type key) h.is w.0.key w.5.key in
         (w.0, record { origin = u.0; there = u.1; is = record { contained = w.1; alone = place_alone k.made.more w.5.origin refl; same = u.2 }; inside = w.2 })
 
+    one_at : (from : Option PieceAt) (m : Link) (a : PieceAt) → IsOneIn x n from m a → IsOneAt (rules_of s.tree) (IsNameOfType s terms nodes) closed y (option_map spot from) m (spot a)
+    one_at from m a (by_type (it_is t)) = of_one_type (type_at from m a t)
+    one_at from m a (by_type (it_asks none t)) = of_argument (λ o g. let w = type_in from m o g in none w.0 w.1) (asked_place_at from m a t.0) (away_at t.0.place t.1)
+    one_at from m a (by_key {key = i} h) = of_key (key_at from i a h)
+
     one_in : (from : Option PieceAt) (m : Link) (at : Spot) → IsOneAt (rules_of s.tree) (IsNameOfType s terms nodes) closed y (option_map spot from) m at → (a : PieceAt) × IsOneIn x n from m a
-    one_in from m at (of_one_type t) = let w = type_in from m at t in (w.0, by_type w.1)
+    one_in from m at (of_one_type t) = let w = type_in from m at t in (w.0, by_type (it_is w.1))
+    one_in from m at (of_argument none h away) =
+        let w = asked_place_in from m at h in
+        let same : spot w.1.place ≡ h.place = same_some (sym (ap (option_map spot) w.1.found) ∙ h.found) in
+        (w.0, by_type (it_asks (λ b g. none (spot b) (type_at from m b g)) (w.1, away_in w.1.place h.place same away)))
     one_in from m at (of_key {key = i} h) = let w = key_in from i at h in (w.0, by_key w.1)
 
+    -- where the type of a value is asked that is known at no entry
+
+    asked_at : (from : Option PieceAt) (key : TypeId) (m : Link) (a : PieceAt) → IsValueAsked x n from key m a → IsValueAskedAt (rules_of s.tree) (IsNameOfType s terms nodes) closed y (option_map spot from) key m (spot a)
+    asked_at from key m a (by_unfilled h) = of_unfilled (unfilled_at from key m a h)
+    asked_at from key m a (by_map none h) = of_map (λ o g. let w = unfilled_in from key m o g in none w.0 w.1) (asked_place_at from m a h)
+
+    asked_in : (from : Option PieceAt) (key : TypeId) (m : Link) (at : Spot) → IsValueAskedAt (rules_of s.tree) (IsNameOfType s terms nodes) closed y (option_map spot from) key m at → (a : PieceAt) × IsValueAsked x n from key m a
+    asked_in from key m at (of_unfilled h) = let w = unfilled_in from key m at h in (w.0, by_unfilled w.1)
+    asked_in from key m at (of_map none h) = let w = asked_place_in from m at h in (w.0, by_map (λ b g. none (spot b) (unfilled_at from key m b g)) w.1)
+
     pair_at : (from : Option PieceAt) (first second : Link) (a : PieceAt) → ArePairIn x n from first second a → ArePairAt (rules_of s.tree) (IsNameOfType s terms nodes) closed y (option_map spot from) first second (spot a)
-    pair_at from first second a (by_value v) = of_value (value_at from first second a v)
-    pair_at from first second a (by_unfilled none v) = of_unfilled (λ o g. let w = value_in from first second o g in none w.0 w.1) (unfilled_at from first second a v)
+    pair_at from first second a (by_value {key = key} v) = of_value (value_at from key second a v)
+    pair_at from first second a (by_asked {key = key} none v) = of_asked (λ o g. let w = value_in from key second o g in none w.0 w.1) (asked_at from key second a v)
     pair_at from first second a (by_entry {k = j} {i = i} e) = of_entry (entry_at from j i a e)
 
     pair_in : (from : Option PieceAt) (first second : Link) (at : Spot) → ArePairAt (rules_of s.tree) (IsNameOfType s terms nodes) closed y (option_map spot from) first second at → (a : PieceAt) × ArePairIn x n from first second a
-    pair_in from first second at (of_value v) = let w = value_in from first second at v in (w.0, by_value w.1)
-    pair_in from first second at (of_unfilled none v) = let w = unfilled_in from first second at v in (w.0, by_unfilled (λ b g. none (spot b) (value_at from first second b g)) w.1)
+    pair_in from first second at (of_value {key = key} v) = let w = value_in from key second at v in (w.0, by_value w.1)
+    pair_in from first second at (of_asked {key = key} none v) = let w = asked_in from key second at v in (w.0, by_asked (λ b g. none (spot b) (value_at from key second b g)) w.1)
     pair_in from first second at (of_entry {k = j} {i = i} e) = let w = entry_in from j i at e in (w.0, by_entry w.1)
 
     no_pair : (from : Option PieceAt) (m : Link) (ms : List Link) → AreNoPairIn x n from m ms → AreNoPair (rules_of s.tree) (IsNameOfType s terms nodes) closed y (option_map spot from) m ms
@@ -783,7 +673,7 @@ module _ (s : Sense) (terms : Table) (nodes : Nodes) (x : TypesInText) (closed :
     no_pair from m (v ∷ ms) none = λ at h. let w = pair_in from m v at h in none w.0 w.1
 
     -- what leads from place to place leads in the text
-    leads : {from to : Option PieceAt} {ms : List Link} → LeadsIn x n from ms to → Leads (rules_of s.tree) (IsNameOfType s terms nodes) closed y (option_map spot from) ms (option_map spot to)
+    pub leads : {from to : Option PieceAt} {ms : List Link} → LeadsIn x n from ms to → Leads (rules_of s.tree) (IsNameOfType s terms nodes) closed y (option_map spot from) ms (option_map spot to)
     leads by_none = arrives
     leads (by_pair {from = from} {key = key} {m = m} {a = a} v l) = to_pair (pair_at from key m a v) (leads l)
     leads (by_one {from = from} {m = m} {ms = ms} {a = a} none t l) = to_one (no_pair from m ms none) (one_at from m a t) (leads l)
@@ -791,81 +681,50 @@ module _ (s : Sense) (terms : Table) (nodes : Nodes) (x : TypesInText) (closed :
 
   -- How what was found is told.
 
-  pub written_at : (n : ℕ) (y : Text) → slice_get k.made.more.texts n ≡ Some y → (a : PieceAt) (st : IsThere closed k.made.more (rules_of s.tree) a) (w : Span) → IsWrittenIn x n (told_origin a) a.span w → IsWritten (rules_of s.tree) (IsNameOfType s terms nodes) closed y x.filled (told_name (closed st.rule) st.piece) a.span w
-  written_at n y e a st w (by_another {b = b} {u = u} filled told h) =
+  if_so : (b : Bool) (o : Option TypeOrigin) (u : TypeOrigin) → if_filled b o ≡ Some u → (b ≡ true) × (o ≡ Some u)
+  if_so true o u e = (refl, e)
+  if_so false o u e = cc
+
+  other_number : (n : ℕ) (y : Text) → slice_get k.made.more.texts n ≡ Some y → (b : PieceAt) (at : Spot) (r : S.Rule) → slice_get (rules_of s.tree) at.rule ≡ Some r → b.rule ≡ at.rule → (x.filled ≡ true → name_in r ≡ y → ⊥) → x.filled ≡ true → HasNumber x b.rule n → ⊥
+  other_number n y e b at r there same other f g =
+      let w = named_rule s terms nodes x closed k b.rule n y g e in
+      other f (ap name_in (one_of (slice_get (rules_of s.tree) at.rule) r w.0 there (ap (slice_get (rules_of s.tree)) (sym same) ∙ w.1)) ∙ w.3)
+
+  written_own : (n : ℕ) (y : Text) → slice_get k.made.more.texts n ≡ Some y → (a : PieceAt) (st : IsThere closed k.made.more (rules_of s.tree) a) (w : Span) → IsWrittenIn x n (if_filled x.filled (told_origin a)) a.span w → IsWritten (rules_of s.tree) (IsNameOfType s terms nodes) closed y x.filled (IsSought (rules_of s.tree) (IsNameOfType s terms nodes) closed x.filled None (told_name (closed st.rule) st.piece)) a.span w
+  written_own n y e a st w (by_elsewhere {b = b} {u = u} told h) =
       let at = k.made.pieces.each b h.is.contained in
-      let name = told_by k.made.more st.piece a st.is.origin st.is.key u told in
+      let so = if_so x.filled (told_origin a) u told in
+      let name = told_by k.made.more st.piece a st.is.origin st.is.key u so.1 in
       let own = piece_name k.made.more (origin_of k.made.more at.piece b.origin u at.is.origin h.is.same) in
-      in_another filled name.1 (stands b at) (λ g. h.other (rule_number b.rule b.rule n y at.rule refl at.there g e)) (own.1 ∙ ap Some (one_name k.made.more k.made.distinct k.made.one_term k.made.one_row own.2 name.2))
-  written_at n y e a st w (by_itself none) =
+      elsewhere (so.0, name.1) (stands b at) (λ f g. h.other f (rule_number b.rule b.rule n y at.rule refl at.there g e)) (own.1 ∙ ap Some (one_name k.made.more k.made.distinct k.made.one_term k.made.one_row own.2 name.2))
+  written_own n y e a st w (by_itself none) =
       as_it_is
-      (λ filled p at z named h other is.
+      (λ p at z sought h other is.
       let b = piece_there p at h in
-      let told = told_with k.made.more st.piece a st.is.origin st.is.key z named in
+      let told = told_with k.made.more st.piece a st.is.origin st.is.key z sought.1 in
       let own = may_name k.made.more b.3.origin z is in
-      let rule : b.0.rule ≡ at.rule = ap (λ (v : Spot). v.rule) b.2 in
-      none filled b.0 told.0 told.1
+      none b.0 told.0 (ap (λ (c : Bool). if_filled c (told_origin a)) sought.0 ∙ told.1)
       (record {
         is = record { contained = b.1; same = own.1 ∙ ap Some (one_origin k.made.more k.made.distinct k.made.one_term k.made.one_row own.2 told.2) };
-        other = λ g. let r = named_rule b.0.rule n y g e in other (ap name_in (one_of (slice_get (rules_of s.tree) at.rule) h.rule r.0 h.there (ap (slice_get (rules_of s.tree)) (sym rule) ∙ r.1)) ∙ r.3);
+        other = other_number n y e b.0 at h.rule h.there (ap (λ (v : Spot). v.rule) b.2) other;
       }))
 
--- With the terms as they are in the instance q, of which the last link to a rule of the text is.
-module _ (s : Sense) (terms : Table) (nodes : Nodes) (x : TypesInText) (q : Ref) (k : AreTypesOf (term_in q) s terms nodes x) where
-  -- a state after links tells the place of the last of them
-  pub is_place : (chain : List Link) (st : State) (found : Option PieceAt) (p : Place) → ((ids : List Link) → IsFoundAfter x st ids → LeadsIn x st.number None ids found) → IsOfLast (IsNameOfType s terms nodes) q x chain → x.filled ≡ has_arguments q → IsStateAfter x chain st → IsTold x st found p → IsPlace (rules_of s.tree) (IsNameOfType s terms nodes) chain p
-  is_place chain st found p after last filled h told = by found (after h.inside h.found) told
-    where
-      to : LeadsTo (IsNameOfType s terms nodes) (reference q) h.instance
-      to = last h.before h.instance (h.inside ++ h.outside) h.split (st.number, st.rule, h.number, h.rule) h.last
+  written_asked : (n : ℕ) (y : Text) → slice_get k.made.more.texts n ≡ Some y → (m : Link) (o : Option TypeName) (own w : Span) → IsWrittenIn x n (origin_at x m) own w → IsWritten (rules_of s.tree) (IsNameOfType s terms nodes) closed y x.filled (IsSought (rules_of s.tree) (IsNameOfType s terms nodes) closed x.filled (Some m) o) own w
+  written_asked n y e m o own w (by_elsewhere {b = b} {u = u} told h) =
+      let at = k.made.pieces.each b h.is.contained in
+      let named = named_piece s terms nodes x closed k (spot b) at.rule at.there at.piece u m told (origin_of k.made.more at.piece b.origin u at.is.origin h.is.same) in
+      elsewhere named.4 (stands b at) (λ f g. h.other f (rule_number b.rule b.rule n y at.rule refl at.there g e)) named.3
+  written_asked n y e m o own w (by_itself none) =
+      as_it_is
+      (λ p at z sought h other is.
+      let b = piece_there p at h in
+      let told = type_origin s terms nodes x closed k at h.rule h.there p m (h.rule, h.there, z, is, sought) b.0.origin b.3.origin in
+      none b.0 told.0 told.1
+      (record {
+        is = record { contained = b.1; same = told.2 };
+        other = other_number n y e b.0 at h.rule h.there (ap (λ (v : Spot). v.rule) b.2) other;
+      }))
 
-      named : slice_get k.made.more.texts st.number ≡ Some (name_of q)
-      named =
-          let w = instance_number s terms nodes x (term_in q) k q h.instance to in
-          subst (λ (n : ℕ). slice_get k.made.more.texts n ≡ Some (name_of q)) (same_some (sym w.1 ∙ h.number)) w.2
-
-      d : (r : S.Rule) × (slice_get (rules_of s.tree) st.rule ≡ Some r) × IsRuleAt k.made.more r h.rule.at × (name_in r ≡ name_of q)
-      d = named_rule s terms nodes x (term_in q) k st.rule st.number (name_of q) h.rule named
-
-      number : slice_get k.made.more.texts st.number ≡ Some (name_in d.0)
-      number = named ∙ ap Some (sym d.3)
-
-      of_rule : (i : ℕ) (a : RuleAt) → slice_get x.rules.items i ≡ Some a → p.name ≡ a.name → ((r : S.Rule) → slice_get (rules_of s.tree) i ≡ Some r → IsSpan (body_tokens r) a.body → IsShown (rules_of s.tree) (IsNameOfType s terms nodes) (term_in q) (name_in d.0) (has_arguments q) r h.inside p.types p.written) → IsPlace (rules_of s.tree) (IsNameOfType s terms nodes) chain p
-      of_rule i a there name shown =
-          let r = k.made.rules.told i a there in
-          record {
-            before = h.before;
-            instance = h.instance;
-            inside = h.inside;
-            outside = h.outside;
-            split = h.split;
-            defined = d.0;
-            is_defined = contains_at (rules_of s.tree) st.rule d.0 d.1;
-            is_instance = (q, to, sym d.3);
-            rule = r.0;
-            there = contains_at (rules_of s.tree) i r.0 r.1;
-            last = λ m c. no_rule s terms nodes x (term_in q) k m (h.last m c);
-            passed = begins s terms nodes x (term_in q) k h.outside st.is_inside h.passed;
-            name = subst (IsNameSpan r.0) (sym name) r.2.name;
-            shown = shown r.0 r.1 r.2.body;
-          }
-
-      lead : {o : Option PieceAt} → LeadsIn x st.number None h.inside o → Leads (rules_of s.tree) (IsNameOfType s terms nodes) (term_in q) (name_in d.0) None h.inside (option_map (spot s terms nodes x (term_in q) k) o)
-      lead l = leads s terms nodes x (term_in q) k st.number (name_in d.0) number l
-
-      by : (o : Option PieceAt) → LeadsIn x st.number None h.inside o → IsTold x st o p → IsPlace (rules_of s.tree) (IsNameOfType s terms nodes) chain p
-      by None l t =
-          of_rule st.rule t.0 t.1 t.2
-          (λ r there body.
-          let same : d.0 ≡ r = one_of (slice_get (rules_of s.tree) st.rule) d.0 r d.1 there in
-          let whole = the_body (ap name_in (sym same)) (lead l) (subst (IsSpan (body_tokens r)) (sym t.3) body) in
-          subst (IsShown (rules_of s.tree) (IsNameOfType s terms nodes) (term_in q) (name_in d.0) (has_arguments q) r h.inside p.types) (t.3 ∙ sym t.4) whole)
-      by (Some a) l t =
-          of_rule a.rule t.0 t.1 t.2
-          (λ r there body.
-          let at = k.made.pieces.each a (found_piece x st.number h.inside a l) in
-          let same : at.rule ≡ r = one_of (slice_get (rules_of s.tree) a.rule) at.rule r at.there there in
-          let w = written_at s terms nodes x (term_in q) k st.number (name_in d.0) number a at p.written t.4 in
-          let in_rule = subst (λ (z : S.Rule). IsWritten (rules_of s.tree) (IsNameOfType s terms nodes) (term_in q) (name_in d.0) x.filled (told_name (term_in q z) at.piece) a.span p.written) same w in
-          let of_flag = subst (λ (b : Bool). IsWritten (rules_of s.tree) (IsNameOfType s terms nodes) (term_in q) (name_in d.0) b (told_name (term_in q r) at.piece) a.span p.written) filled in_rule in
-          a_piece (lead l) (stands s terms nodes x (term_in q) k a at) same t.3 (subst (λ (z : Span). IsWritten (rules_of s.tree) (IsNameOfType s terms nodes) (term_in q) (name_in d.0) (has_arguments q) (told_name (term_in q r) at.piece) z p.written) (sym t.3) of_flag))
+  pub written_at : (n : ℕ) (y : Text) → slice_get k.made.more.texts n ≡ Some y → (a : PieceAt) (o : Option Link) (st : IsThere closed k.made.more (rules_of s.tree) a) (w : Span) → IsWrittenIn x n (sought_by x o (told_origin a)) a.span w → IsWritten (rules_of s.tree) (IsNameOfType s terms nodes) closed y x.filled (IsSought (rules_of s.tree) (IsNameOfType s terms nodes) closed x.filled o (told_name (closed st.rule) st.piece)) a.span w
+  written_at n y e a None st w h = written_own n y e a st w h
+  written_at n y e a (Some m) st w h = written_asked n y e m (told_name (closed st.rule) st.piece) a.span w h

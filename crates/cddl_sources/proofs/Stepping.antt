@@ -9,7 +9,7 @@ use Rattle.table_making.specs.declared.origin.TypeOrigin.TheVariants as T
 use Rattle.table_nodes.specs.declared.nodes.TypeId.{TypeId}
 use Rattle.type_links.specs.declared.link.Link.{Link}
 use Rattle.type_links.specs.declared.link.Link.TheVariants as L
-use Rattle.cddl_sources.specs.States.{AreNoEntry, ArePairIn, ArePassed, HasNoRule, HasNumber, IsAlternative, IsEntryInBody, IsEntryNamed, IsEntryOf, IsEntryOfName, IsEntryOfRule, IsEntryUnwrapped, IsEntryWithin, IsFoundAfter, IsFrom, IsKeyIn, IsKeyPlace, IsOneIn, IsRuleIn, IsOfOrigin, IsStarted, IsStateAfter, IsStateOf, IsTypeIn, IsInMapFrom, IsNoValue, IsUnfilledIn, IsUnfilledOf, IsValueIn, LeadsIn, arrives, by_unwrapping, count_in, counted, named, of_entry, of_key, of_type, of_unfilled, of_value, origin_at, passes, plain_name, to_one, to_pair, in_its_group, in_its_brackets, unwrapped_name, with_held, within}
+use Rattle.cddl_sources.specs.States.{AreNoEntry, ArePairIn, ArePassed, HasNoRule, HasNumber, IsAlternative, IsEntryInBody, IsEntryNamed, IsEntryOf, IsEntryOfName, IsEntryOfRule, IsEntryUnwrapped, IsEntryWithin, IsFoundAfter, IsFrom, IsKeyIn, IsKeyPlace, IsOneIn, IsRuleIn, IsOfOrigin, IsStarted, IsStateAfter, IsStateOf, IsTypeIn, IsInMapFrom, IsNoValue, IsUnfilledIn, IsUnfilledOf, IsValueIn, LeadsIn, arrives, by_unwrapping, count_in, counted, named, of_entry, of_key, of_type, of_unfilled, of_value, origin_at, passes, plain_name, to_one, to_pair, in_its_group, in_its_brackets, unwrapped_name, with_held, within, IsValueAsked, asking, of_asked, of_map, IsAskedIn, IsAskedThere, IsAway, IsTypeOrAsked, IsUnfilled, as_before, it_asks, it_is, unfilled}
 use Rattle.cddl_sources.specs.declared.piece.NameAt.{NameAt}
 use Rattle.cddl_sources.specs.declared.piece.PieceAt.{PieceAt}
 use Rattle.cddl_sources.specs.declared.place.State.{State}
@@ -120,13 +120,20 @@ entry_rule x (within h) g = (g.0, ap (slice_get x.rules.items) h.rule ∙ g.1)
 entry_rule x {a = a} (named h) g = counted_rule x h.name h.is.own a.rule h.is.is_alternative.less
 entry_rule x (by_unwrapping h) g = (h.is.body.rule.at, h.is.body.rule.there)
 
+asked_rule : (x : TypesInText) {from : Option PieceAt} {m : Link} {a : PieceAt} → IsAskedIn x from m a → IfSome from (λ b. IsRuleIn x b.rule) → IsRuleIn x a.rule
+asked_rule x h g =
+    let w : IsRuleIn x h.place.rule = subst (λ (o : Option PieceAt). IfSome o (λ b. IsRuleIn x b.rule)) h.found g in
+    (w.0, ap (λ (b : PieceAt). slice_get x.rules.items b.rule) h.same ∙ w.1)
+
 pair_rule : (x : TypesInText) (n : ℕ) {from : Option PieceAt} {first second : Link} {a : PieceAt} → ArePairIn x n from first second a → IfSome from (λ b. IsRuleIn x b.rule) → IsRuleIn x a.rule
 pair_rule x n (of_value v) g = map_rule x n _ _ v.inside g
-pair_rule x n (of_unfilled none v) g = map_rule x n _ _ v.is.inside g
+pair_rule x n (of_asked none (of_unfilled v)) g = let w = map_rule x n _ _ v.is.inside g in (w.0, ap (λ (b : PieceAt). slice_get x.rules.items b.rule) v.same ∙ w.1)
+pair_rule x n (of_asked none (of_map other v)) g = asked_rule x v g
 pair_rule x n (of_entry e) g = entry_rule x e g
 
 one_rule : (x : TypesInText) (n : ℕ) {from : Option PieceAt} {m : Link} {a : PieceAt} → IsOneIn x n from m a → IfSome from (λ b. IsRuleIn x b.rule) → IsRuleIn x a.rule
-one_rule x n (of_type t) g = from_rule x n _ _ t.inside g
+one_rule x n (of_type (it_is t)) g = from_rule x n _ _ t.inside g
+one_rule x n (of_type (it_asks none h)) g = asked_rule x h.0 g
 one_rule x n (of_key k) g = map_rule x n _ _ k.inside g
 
 -- what was found is in a rule
@@ -139,26 +146,42 @@ found_from x n (passes none t l) h = found_from x n l h
 pub found_there : (x : TypesInText) (n : ℕ) (ids : List Link) (o : Option PieceAt) → LeadsIn x n None ids o → IfSome o (λ a. IsRuleIn x a.rule)
 found_there x n ids o l = found_from x n l tt
 
--- what was found is one of the pieces
+-- what was found is one of the pieces, whatever is asked there
 
-pair_piece : (x : TypesInText) (n : ℕ) {from : Option PieceAt} {first second : Link} {a : PieceAt} → ArePairIn x n from first second a → Contains x.pieces.items a
-pair_piece x n (of_value v) = v.is.contained
-pair_piece x n (of_unfilled none v) = v.is.contained
-pair_piece x n (of_entry (within h)) = h.contained
-pair_piece x n (of_entry (named h)) = h.is.is.contained
-pair_piece x n (of_entry (by_unwrapping h)) = h.is.contained
+pub record IsOfPiece (x : TypesInText) (a : PieceAt) : Type 0 where
+  pub piece : PieceAt
+  pub contained : Contains x.pieces.items piece
+  pub same : a ≡ record piece { asked = a.asked }
 
-one_piece : (x : TypesInText) (n : ℕ) {from : Option PieceAt} {m : Link} {a : PieceAt} → IsOneIn x n from m a → Contains x.pieces.items a
-one_piece x n (of_type t) = t.is.contained
-one_piece x n (of_key k) = k.is.contained
+own_piece : (x : TypesInText) (a : PieceAt) → Contains x.pieces.items a → IsOfPiece x a
+own_piece x a h = record { piece = a; contained = h; same = refl }
 
-piece_from : (x : TypesInText) (n : ℕ) {from to : Option PieceAt} {ms : List Link} → LeadsIn x n from ms to → IfSome from (Contains x.pieces.items) → IfSome to (Contains x.pieces.items)
+asking_piece : (x : TypesInText) (m : Link) (a b : PieceAt) → IsOfPiece x a → b ≡ asking m a → IsOfPiece x b
+asking_piece x m a b h e = subst (IsOfPiece x) (sym e) (record { piece = h.piece; contained = h.contained; same = ap (asking m) h.same })
+
+asked_piece : (x : TypesInText) {from : Option PieceAt} {m : Link} {a : PieceAt} → IsAskedIn x from m a → IfSome from (IsOfPiece x) → IsOfPiece x a
+asked_piece x {m = m} {a = a} h g = asking_piece x m h.place a (subst (λ (o : Option PieceAt). IfSome o (IsOfPiece x)) h.found g) h.same
+
+pair_piece : (x : TypesInText) (n : ℕ) {from : Option PieceAt} {first second : Link} {a : PieceAt} → ArePairIn x n from first second a → IfSome from (IsOfPiece x) → IsOfPiece x a
+pair_piece x n {a = a} (of_value v) h = own_piece x a v.is.contained
+pair_piece x n {second = m} {a = a} (of_asked none (of_unfilled v)) h = asking_piece x m v.piece a (own_piece x v.piece v.is.contained) v.same
+pair_piece x n (of_asked none (of_map other v)) h = asked_piece x v h
+pair_piece x n {a = a} (of_entry (within e)) h = own_piece x a e.contained
+pair_piece x n {a = a} (of_entry (named e)) h = own_piece x a e.is.is.contained
+pair_piece x n {a = a} (of_entry (by_unwrapping e)) h = own_piece x a e.is.contained
+
+one_piece : (x : TypesInText) (n : ℕ) {from : Option PieceAt} {m : Link} {a : PieceAt} → IsOneIn x n from m a → IfSome from (IsOfPiece x) → IsOfPiece x a
+one_piece x n {a = a} (of_type (it_is t)) h = own_piece x a t.is.contained
+one_piece x n (of_type (it_asks none t)) h = asked_piece x t.0 h
+one_piece x n {a = a} (of_key k) h = own_piece x a k.is.contained
+
+piece_from : (x : TypesInText) (n : ℕ) {from to : Option PieceAt} {ms : List Link} → LeadsIn x n from ms to → IfSome from (IsOfPiece x) → IfSome to (IsOfPiece x)
 piece_from x n arrives h = h
-piece_from x n (to_pair v l) h = piece_from x n l (pair_piece x n v)
-piece_from x n (to_one none t l) h = piece_from x n l (one_piece x n t)
+piece_from x n (to_pair v l) h = piece_from x n l (pair_piece x n v h)
+piece_from x n (to_one none t l) h = piece_from x n l (one_piece x n t h)
 piece_from x n (passes none t l) h = piece_from x n l h
 
-pub found_piece : (x : TypesInText) (n : ℕ) (ids : List Link) (a : PieceAt) → LeadsIn x n None ids (Some a) → Contains x.pieces.items a
+pub found_piece : (x : TypesInText) (n : ℕ) (ids : List Link) (a : PieceAt) → LeadsIn x n None ids (Some a) → IsOfPiece x a
 found_piece x n ids a l = piece_from x n l tt
 
 -- what is found by origins is found by the types that have them
@@ -172,17 +195,21 @@ of_same x a o p e h = record { contained = h.contained; same = h.same ∙ ap Som
 pub no_type : (x : TypesInText) (n : ℕ) (from : Option PieceAt) (id : Link) (a : PieceAt) {o : TypeOrigin} → origin_at x id ≡ Some o → ((b : PieceAt) → IsOfOrigin x o b → IsFrom x n from b → ⊥) → IsTypeIn x n from id a → ⊥
 no_type x n from id a {o = o} there none h = none a (of_same x a h.origin o (same_some (sym h.there ∙ there)) h.is) h.inside
 
-pub any_value : (x : TypesInText) (n : ℕ) (from : Option PieceAt) (key id : Link) (a : PieceAt) {k o : TypeOrigin} → origin_at x key ≡ Some k → origin_at x id ≡ Some o → IsOfOrigin x o a → IsInMapFrom x n from a → a.key ≡ Some k → IsValueIn x n from key id a
+pub any_value : (x : TypesInText) (n : ℕ) (from : Option PieceAt) (key : TypeId) (id : Link) (a : PieceAt) {k o : TypeOrigin} → origin_at x (L.Type key) ≡ Some k → origin_at x id ≡ Some o → IsOfOrigin x o a → IsInMapFrom x n from a → a.key ≡ Some k → IsValueIn x n from key id a
 any_value x n from key id a {k = k} {o = o} there is_there is inside same = record { key_origin = k; key_there = there; same = same; origin = o; there = is_there; is = is; inside = inside }
 
-pub no_value : (x : TypesInText) (n : ℕ) (from : Option PieceAt) (key id : Link) (a : PieceAt) {k o : TypeOrigin} → origin_at x key ≡ Some k → origin_at x id ≡ Some o → ((b : PieceAt) → IsOfOrigin x o b → IsInMapFrom x n from b → b.key ≡ Some k → ⊥) → IsValueIn x n from key id a → ⊥
+pub no_value : (x : TypesInText) (n : ℕ) (from : Option PieceAt) (key : TypeId) (id : Link) (a : PieceAt) {k o : TypeOrigin} → origin_at x (L.Type key) ≡ Some k → origin_at x id ≡ Some o → ((b : PieceAt) → IsOfOrigin x o b → IsInMapFrom x n from b → b.key ≡ Some k → ⊥) → IsValueIn x n from key id a → ⊥
 no_value x n from key id a {k = k} {o = o} there is_there none h = none a (of_same x a h.origin o (same_some (sym h.there ∙ is_there)) h.is) h.inside (h.same ∙ ap Some (same_some (sym h.key_there ∙ there)))
 
-pub any_unfilled : (x : TypesInText) (n : ℕ) (from : Option PieceAt) (key id : Link) (a : PieceAt) {k o : TypeOrigin} → origin_at x key ≡ Some k → origin_at x id ≡ Some o → IsUnfilledOf x n from k a → IsUnfilledIn x n from key id a
-any_unfilled x n from key id a {k = k} {o = o} there is_there is = record { key_origin = k; key_there = there; origin = o; there = is_there; is = is }
+pub any_unfilled : (x : TypesInText) (n : ℕ) (from : Option PieceAt) (key : TypeId) (id : Link) (a b : PieceAt) {k o : TypeOrigin} → origin_at x (L.Type key) ≡ Some k → origin_at x id ≡ Some o → IsUnfilledOf x n from k b → a ≡ asking id b → IsUnfilledIn x n from key id a
+any_unfilled x n from key id a b {k = k} {o = o} there is_there is same = record { key_origin = k; key_there = there; origin = o; there = is_there; piece = b; is = is; same = same }
 
-pub no_unfilled : (x : TypesInText) (n : ℕ) (from : Option PieceAt) (key id : Link) (a : PieceAt) {k : TypeOrigin} → origin_at x key ≡ Some k → ((b : PieceAt) → IsUnfilledOf x n from k b → ⊥) → IsUnfilledIn x n from key id a → ⊥
-no_unfilled x n from key id a {k = k} there none h = none a (subst (λ (o : TypeOrigin). IsUnfilledOf x n from o a) (same_some (sym h.key_there ∙ there)) h.is)
+pub no_unfilled : (x : TypesInText) (n : ℕ) (from : Option PieceAt) (key : TypeId) (id : Link) (a : PieceAt) {k : TypeOrigin} → origin_at x (L.Type key) ≡ Some k → ((b : PieceAt) → IsUnfilledOf x n from k b → ⊥) → IsUnfilledIn x n from key id a → ⊥
+no_unfilled x n from key id a {k = k} there none h = none h.piece (subst (λ (o : TypeOrigin). IsUnfilledOf x n from o h.piece) (same_some (sym h.key_there ∙ there)) h.is)
+
+pub no_asked : (x : TypesInText) (n : ℕ) (from : Option PieceAt) (key : TypeId) (id : Link) (a : PieceAt) → (IsUnfilledIn x n from key id a → ⊥) → (IsAskedIn x from id a → ⊥) → IsValueAsked x n from key id a → ⊥
+no_asked x n from key id a other none (of_unfilled h) = other h
+no_asked x n from key id a other none (of_map is h) = none h
 
 pub any_key : (x : TypesInText) (n : ℕ) (from : Option PieceAt) (key : TypeId) (a : PieceAt) {o : TypeOrigin} → origin_at x (L.Type key) ≡ Some o → IsKeyPlace x o a → IsInMapFrom x n from a → IsKeyIn x n from key a
 any_key x n from key a {o = o} there is inside = record { origin = o; there = there; is = is; inside = inside }
@@ -305,53 +332,74 @@ unwrapped_number x around n k i a e h = subst (λ (m : ℕ). IsEntryInBody x m k
 
 -- what two links lead to together, by the forms that they have
 
-pub pair_value : (x : TypesInText) (n : ℕ) (from : Option PieceAt) (first second : Link) (a : PieceAt) {m : TypeId} → first ≡ L.Type m → ArePairIn x n from first second a → IsNoValue x n from first second a → ⊥
-pair_value x n from first second a e (of_value v) none = none.0 v
-pair_value x n from first second a e (of_unfilled other v) none = none.1 v
+pub pair_value : (x : TypesInText) (n : ℕ) (from : Option PieceAt) (first second : Link) (a : PieceAt) {key : TypeId} → first ≡ L.Key key → ArePairIn x n from first second a → IsNoValue x n from key second a → ⊥
+pair_value x n from first second a e (of_value v) none = none.0 (subst (λ (i : TypeId). IsValueIn x n from i second a) (same_key e) v)
+pair_value x n from first second a e (of_asked other v) none = none.1 (subst (λ (i : TypeId). IsValueAsked x n from i second a) (same_key e) v)
 pair_value x n from first second a e (of_entry h) none = cc
 
 pub pair_entry : (x : TypesInText) (n : ℕ) (from : Option PieceAt) (first second : Link) (a : PieceAt) {k i : ℕ} → first ≡ L.Alternative k → second ≡ L.Entry i → ArePairIn x n from first second a → IsEntryOf x from k i a
-pair_entry x n from first second a {k = k} e f (of_value v) = absurd (no_some (sym (ap (origin_at x) e) ∙ v.key_there))
-pair_entry x n from first second a {k = k} e f (of_unfilled none v) = absurd (no_some (sym (ap (origin_at x) e) ∙ v.key_there))
+pair_entry x n from first second a e f (of_value v) = cc
+pair_entry x n from first second a e f (of_asked none v) = cc
 pair_entry x n from first second a {i = i} e f (of_entry {k = l} {i = z} h) = subst (λ (j : ℕ). IsEntryOf x from j i a) (same_alternative e) (subst (λ (j : ℕ). IsEntryOf x from l j a) (same_place f) h)
 
 pub no_pair_entry : (x : TypesInText) (n : ℕ) (from : Option PieceAt) (first second : Link) (a : PieceAt) {i : ℕ} → first ≡ L.Entry i → ArePairIn x n from first second a → ⊥
-no_pair_entry x n from first second a e (of_value v) = no_some (sym (ap (origin_at x) e) ∙ v.key_there)
-no_pair_entry x n from first second a e (of_unfilled none v) = no_some (sym (ap (origin_at x) e) ∙ v.key_there)
+no_pair_entry x n from first second a e (of_value v) = cc
+no_pair_entry x n from first second a e (of_asked none v) = cc
 no_pair_entry x n from first second a e (of_entry h) = cc
 
 pub no_pair_type : (x : TypesInText) (n : ℕ) (from : Option PieceAt) (first second : Link) (a : PieceAt) {k : ℕ} {m : TypeId} → first ≡ L.Alternative k → second ≡ L.Type m → ArePairIn x n from first second a → ⊥
-no_pair_type x n from first second a e f (of_value v) = no_some (sym (ap (origin_at x) e) ∙ v.key_there)
-no_pair_type x n from first second a e f (of_unfilled none v) = no_some (sym (ap (origin_at x) e) ∙ v.key_there)
+no_pair_type x n from first second a e f (of_value v) = cc
+no_pair_type x n from first second a e f (of_asked none v) = cc
 no_pair_type x n from first second a e f (of_entry h) = cc
 
 pub no_pair_alternative : (x : TypesInText) (n : ℕ) (from : Option PieceAt) (first second : Link) (a : PieceAt) {k j : ℕ} → first ≡ L.Alternative k → second ≡ L.Alternative j → ArePairIn x n from first second a → ⊥
-no_pair_alternative x n from first second a e f (of_value v) = no_some (sym (ap (origin_at x) e) ∙ v.key_there)
-no_pair_alternative x n from first second a e f (of_unfilled none v) = no_some (sym (ap (origin_at x) e) ∙ v.key_there)
+no_pair_alternative x n from first second a e f (of_value v) = cc
+no_pair_alternative x n from first second a e f (of_asked none v) = cc
 no_pair_alternative x n from first second a e f (of_entry h) = cc
 
-pub no_pair_key : (x : TypesInText) (n : ℕ) (from : Option PieceAt) (first second : Link) (a : PieceAt) {m : TypeId} → first ≡ L.Key m → ArePairIn x n from first second a → ⊥
-no_pair_key x n from first second a e (of_value v) = no_some (sym (ap (origin_at x) e) ∙ v.key_there)
-no_pair_key x n from first second a e (of_unfilled none v) = no_some (sym (ap (origin_at x) e) ∙ v.key_there)
-no_pair_key x n from first second a e (of_entry h) = cc
+pub no_pair_of_type : (x : TypesInText) (n : ℕ) (from : Option PieceAt) (first second : Link) (a : PieceAt) {m : TypeId} → first ≡ L.Type m → ArePairIn x n from first second a → ⊥
+no_pair_of_type x n from first second a e (of_value v) = cc
+no_pair_of_type x n from first second a e (of_asked none v) = cc
+no_pair_of_type x n from first second a e (of_entry h) = cc
 
 -- what one link leads to by itself, by the form that it has
 
-pub one_type : (x : TypesInText) (n : ℕ) (from : Option PieceAt) (m : Link) (a : PieceAt) {t : TypeId} → m ≡ L.Type t → IsOneIn x n from m a → IsTypeIn x n from m a
+pub one_type : (x : TypesInText) (n : ℕ) (from : Option PieceAt) (m : Link) (a : PieceAt) {t : TypeId} → m ≡ L.Type t → IsOneIn x n from m a → IsTypeOrAsked x n from m a
 one_type x n from m a e (of_type t) = t
 one_type x n from m a e (of_key h) = cc
 
+-- a link to no type is to no such place
+no_type_at_all : (x : TypesInText) (n : ℕ) (from : Option PieceAt) (m : Link) (a : PieceAt) → origin_at x m ≡ None → IsTypeOrAsked x n from m a → ⊥
+no_type_at_all x n from m a e (it_is h) = no_some (sym e ∙ h.there)
+no_type_at_all x n from m a e (it_asks none h) = no_some (sym e ∙ h.0.there)
+
 pub one_key : (x : TypesInText) (n : ℕ) (from : Option PieceAt) (m : Link) (a : PieceAt) {key : TypeId} → m ≡ L.Key key → IsOneIn x n from m a → IsKeyIn x n from key a
-one_key x n from m a e (of_type t) = absurd (no_some (sym (ap (origin_at x) e) ∙ t.there))
+one_key x n from m a e (of_type t) = absurd (no_type_at_all x n from m a (ap (origin_at x) e) t)
 one_key x n from m a e (of_key h) = subst (λ (i : TypeId). IsKeyIn x n from i a) (same_key e) h
 
 pub no_one_alternative : (x : TypesInText) (n : ℕ) (from : Option PieceAt) (m : Link) (a : PieceAt) {k : ℕ} → m ≡ L.Alternative k → IsOneIn x n from m a → ⊥
-no_one_alternative x n from m a e (of_type t) = no_some (sym (ap (origin_at x) e) ∙ t.there)
+no_one_alternative x n from m a e (of_type t) = no_type_at_all x n from m a (ap (origin_at x) e) t
 no_one_alternative x n from m a e (of_key h) = cc
 
 pub no_one_entry : (x : TypesInText) (n : ℕ) (from : Option PieceAt) (m : Link) (a : PieceAt) {i : ℕ} → m ≡ L.Entry i → IsOneIn x n from m a → ⊥
-no_one_entry x n from m a e (of_type t) = no_some (sym (ap (origin_at x) e) ∙ t.there)
+no_one_entry x n from m a e (of_type t) = no_type_at_all x n from m a (ap (origin_at x) e) t
 no_one_entry x n from m a e (of_key h) = cc
+
+-- where a type is asked that may stand elsewhere
+
+pub no_type_or_asked : (x : TypesInText) (n : ℕ) (from : Option PieceAt) (m : Link) (a : PieceAt) → (IsTypeIn x n from m a → ⊥) → (IsAskedThere x n from m a → ⊥) → IsTypeOrAsked x n from m a → ⊥
+no_type_or_asked x n from m a none other (it_is h) = none h
+no_type_or_asked x n from m a none other (it_asks is h) = other h
+
+pub away_at : (x : TypesInText) (n : ℕ) (from : Option PieceAt) (m : Link) (place : PieceAt) → from ≡ Some place → IsAway x n place → (a : PieceAt) → IsAskedIn x from m a → IsAskedThere x n from m a
+away_at x n from m place e away a h = (h, subst (IsAway x n) (same_some (sym e ∙ h.found)) away)
+
+pub not_away : (x : TypesInText) (n : ℕ) (from : Option PieceAt) (m : Link) (place : PieceAt) → from ≡ Some place → (IsAway x n place → ⊥) → (a : PieceAt) → IsAskedThere x n from m a → ⊥
+not_away x n from m place e none a h = none (subst (IsAway x n) (same_some (sym h.0.found ∙ e)) h.1)
+
+pub away_by_rule : (x : TypesInText) (n : ℕ) (a : PieceAt) → a.asked ≡ None → IsAway x n a → IsUnfilled x n a
+away_by_rule x n a e (as_before f) = absurd (no_some (sym e ∙ f))
+away_by_rule x n a e (unfilled h) = h
 
 pub some_then : {A : Type 0} (o : Option A) (P Q : A → Type 0) → ((a : A) → P a → Q a) → IfSome o P → IfSome o Q
 some_then None P Q f h = tt

@@ -86,6 +86,7 @@ pub record IsClosedPiece (closed : Term → Term) (t : Table) (p : Piece) (a : P
   pub around : AreRoundIt p a.around
   pub entry : MayBeIn p a.entry
   pub name : IsNumberOf t (name_there p) a.name
+  pub own : a.asked ≡ None
   pub span : IsSpan (tokens_of_piece p) a.span
 
 -- The same of pieces as they are written.

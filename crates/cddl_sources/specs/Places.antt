@@ -10,7 +10,7 @@ use Rattle.type_links.specs.declared.link.Link.{Link}
 use Rattle.type_links.specs.declared.link.Link.TheVariants as L
 use Rattle.cddl_sources.specs.Instances.{has_arguments, term_in}
 use Rattle.cddl_sources.specs.Pieces.{Around, Called, Inner, Piece, a_key, a_member, a_value, alternatives_of, an_entry, brackets, in_rule, name_of_piece, name_there, plain, the_rule, told_name, tokens_of_piece, unwrapped}
-use Rattle.cddl_sources.specs.Spans.{IsNameSpan, IsSpan, IsWithin, Spot, body_tokens, is_generic}
+use Rattle.cddl_sources.specs.Spans.{IsNameSpan, IsSpan, IsWithin, Spot, asking, body_tokens, is_generic, plainly}
 use Rattle.cddl_sources.specs.declared.place.Place.{Place}
 use Rattle.cddl_sources.specs.declared.span.Span.{Span}
 
@@ -52,13 +52,14 @@ module _ (rules : List S.Rule) (names : TypeName → TypeId → Type 0) where
   BeginsWithInstance [] = Unit {0}
   BeginsWithInstance (m ∷ ms) = (q : Ref) × LeadsTo names (reference q) m
 
-  -- There stands the piece.
+  -- There stands the piece, and nothing else is asked there.
   pub record Stands (p : Piece) (at : Spot) : Type 0 where
     pub rule : S.Rule
     pub there : slice_get rules at.rule ≡ Some rule
     pub contained : Contains (in_rule rule) p
     pub span : IsSpan (tokens_of_piece p) at.span
     pub name : at.name ≡ name_there p
+    pub own : at.asked ≡ None
 
   -- the same, within another part of the text, or in a rule of this name, if none is given
   abbrev pub StandsAt : Text → Option Spot → Piece → Spot → Type 0
@@ -149,37 +150,58 @@ module _ (rules : List S.Rule) (names : TypeName → TypeId → Type 0) (closed 
     pub is : IsOf at key_piece (L.Type key)
 
   -- the value's type in an entry of the map that has these types as its key and as its value
-  pub record IsValueAt (n : Text) (from : Option Spot) (key m : Link) (at : Spot) : Type 0 where
+  pub record IsValueAt (n : Text) (from : Option Spot) (key : TypeId) (m : Link) (at : Spot) : Type 0 where
     pub around : Around
     pub key_piece : Piece
     pub types : S.Types
     pub stands : StandsIn rules names n from around (a_value around key_piece types) at
-    pub is_key : IsOf at key_piece key
+    pub is_key : IsOf at key_piece (L.Type key)
     pub is : IsOf at (a_value around key_piece types) m
 
-  -- the value's type in an entry of the map that has this type as its key, in a rule with parameters, whose arguments stand elsewhere
-  pub record IsUnfilledAt (n : Text) (from : Option Spot) (key m : Link) (at : Spot) : Type 0 where
+  -- the value's type in an entry of the map that has this type as its key, in a rule with parameters, whose arguments stand elsewhere: the
+  -- other type is asked there
+  pub record IsUnfilledAt (n : Text) (from : Option Spot) (key : TypeId) (m : Link) (at : Spot) : Type 0 where
     pub around : Around
     pub key_piece : Piece
     pub types : S.Types
-    pub stands : StandsIn rules names n from around (a_value around key_piece types) at
-    pub is_key : IsOf at key_piece key
+    pub stands : StandsIn rules names n from around (a_value around key_piece types) (plainly at)
+    pub asked : at.asked ≡ Some m
+    pub is_key : IsOf at key_piece (L.Type key)
     pub value : (y : TypeName) × LeadsTo names y m
     pub rule : S.Rule
     pub there : slice_get rules at.rule ≡ Some rule
     pub generic : is_generic rule ≡ true
     pub other : name_in rule ≡ n → ⊥
 
-  -- Two links lead there together: to the value's type in an entry, by the key alone only where no entry is known to have both; or to an
-  -- entry.
+  -- the type is asked in the part of the text before
+  pub record IsAskedIn (from : Option Spot) (m : Link) (at : Spot) : Type 0 where
+    pub place : Spot
+    pub found : from ≡ Some place
+    pub value : (y : TypeName) × LeadsTo names y m
+    pub is : at ≡ asking m place
+
+  -- Where the type of a value is asked that is known at no entry: in one that has the key; where there is none, its key is elsewhere too,
+  -- and that is in the map.
+  pub data IsValueAsked (n : Text) (from : Option Spot) (key : TypeId) (m : Link) (at : Spot) : Type 0 where
+    of_unfilled : IsUnfilledAt n from key m at → IsValueAsked n from key m at
+    of_map : ((o : Spot) → IsUnfilledAt n from key m o → ⊥) → IsAskedIn from m at → IsValueAsked n from key m at
+
+  -- Two links lead there together: to the value's type in an entry, or where no entry is known to have both, to where it is asked; or to
+  -- an entry.
   pub data ArePairAt (n : Text) (from : Option Spot) : Link → Link → Spot → Type 0 where
-    of_value : {key m : Link} {at : Spot} → IsValueAt n from key m at → ArePairAt n from key m at
-    of_unfilled : {key m : Link} {at : Spot} → ((o : Spot) → IsValueAt n from key m o → ⊥) → IsUnfilledAt n from key m at → ArePairAt n from key m at
+    of_value : {key : TypeId} {m : Link} {at : Spot} → IsValueAt n from key m at → ArePairAt n from (L.Key key) m at
+    of_asked : {key : TypeId} {m : Link} {at : Spot} → ((o : Spot) → IsValueAt n from key m o → ⊥) → IsValueAsked n from key m at → ArePairAt n from (L.Key key) m at
     of_entry : {k i : ℕ} {at : Spot} → IsEntryAt rules names from k i at → ArePairAt n from (L.Alternative k) (L.Entry i) at
 
-  -- One link leads there by itself: to a type, or to the key of an entry.
+  -- What is asked there may stand elsewhere: such a type is asked there already; or it is in a rule with parameters.
+  pub data IsAway (n : Text) (at : Spot) : Type 0 where
+    as_before : {k : Link} → at.asked ≡ Some k → IsAway n at
+    unfilled : (r : S.Rule) → slice_get rules at.rule ≡ Some r → is_generic r ≡ true → (name_in r ≡ n → ⊥) → IsAway n at
+
+  -- One link leads there by itself: to a type; to where one is asked that stands elsewhere; or to the key of an entry.
   pub data IsOneAt (n : Text) (from : Option Spot) : Link → Spot → Type 0 where
     of_type : {m : Link} {at : Spot} → IsTypeAt n from m at → IsOneAt n from m at
+    of_argument : {m : Link} {at : Spot} → ((o : Spot) → IsTypeAt n from m o → ⊥) → (h : IsAskedIn from m at) → IsAway n h.place → IsOneAt n from m at
     of_key : {key : TypeId} {at : Spot} → IsKeyAt n from key at → IsOneAt n from (L.Key key) at
 
   -- this link and the next one lead nowhere together
@@ -189,22 +211,30 @@ module _ (rules : List S.Rule) (names : TypeName → TypeId → Type 0) (closed 
 
   -- From a part of the text, or from all rules of the name, links lead on: the key and the value of an entry to the value's type, an
   -- alternative of a group and an entry of it to this entry, the key of an entry by itself to this key, any other type to where it
-  -- stands there; and what does not stand there leads to nothing more.
+  -- stands or is asked there; and what does neither leads to nothing more.
   pub data Leads (n : Text) : Option Spot → List Link → Option Spot → Type 0 where
     arrives : {from : Option Spot} → Leads n from [] from
     to_pair : {from to : Option Spot} {key m : Link} {ms : List Link} {at : Spot} → ArePairAt n from key m at → Leads n (Some at) ms to → Leads n from (key ∷ m ∷ ms) to
     to_one : {from to : Option Spot} {m : Link} {ms : List Link} {at : Spot} → AreNoPair n from m ms → IsOneAt n from m at → Leads n (Some at) ms to → Leads n from (m ∷ ms) to
     passes : {from to : Option Spot} {m : Link} {ms : List Link} → AreNoPair n from m ms → ((at : Spot) → IsOneAt n from m at → ⊥) → Leads n from ms to → Leads n from (m ∷ ms) to
 
-  -- How the type of this name is told that stands in a part of the text: as it is written in a rule of another name, where there are
-  -- arguments and it is written so; or as what stands there.
-  pub data IsWritten (n : Text) (filled : Bool) (y : Option TypeName) (s : Span) : Span → Type 0 where
-    in_another : {p : Piece} {at : Spot} {z : TypeName} → filled ≡ true → y ≡ Some z → (h : Stands rules names p at) → (name_in h.rule ≡ n → ⊥) → name_of_piece (closed h.rule) p ≡ Some z → IsWritten n filled y s at.span
-    as_it_is : (filled ≡ true → (p : Piece) (at : Spot) (z : TypeName) → y ≡ Some z → (h : Stands rules names p at) → (name_in h.rule ≡ n → ⊥) → name_of_piece (closed h.rule) p ≡ Some z → ⊥) → IsWritten n filled y s s
+  -- The type that may be written elsewhere: the one that is asked; or with arguments the one of which the piece is.
+  abbrev pub IsSought : (filled : Bool) → Option Link → Option TypeName → TypeName → Type 0
+  IsSought filled (Some m) o y = LeadsTo names y m
+  IsSought filled None o y = (filled ≡ true) × (o ≡ Some y)
+
+  -- The rule has types as they are written; with arguments those of the name have these in the place of parameters.
+  abbrev pub IsOther : Text → (filled : Bool) → S.Rule → Type 0
+  IsOther n filled r = filled ≡ true → name_in r ≡ n → ⊥
+
+  -- How a type that is sought is told, in the place of what stands in a part of the text: as it is written; or as what stands there.
+  pub data IsWritten (n : Text) (filled : Bool) (sought : TypeName → Type 0) (s : Span) : Span → Type 0 where
+    elsewhere : {p : Piece} {at : Spot} {y : TypeName} → sought y → (h : Stands rules names p at) → IsOther n filled h.rule → name_of_piece (closed h.rule) p ≡ Some y → IsWritten n filled sought s at.span
+    as_it_is : ((p : Piece) (at : Spot) (y : TypeName) → sought y → (h : Stands rules names p at) → IsOther n filled h.rule → name_of_piece (closed h.rule) p ≡ Some y → ⊥) → IsWritten n filled sought s s
 
   -- What the links lead to, in the rule; or where they lead to nothing in rules of the name, all of the body of one of these.
   pub data IsShown (n : Text) (filled : Bool) (r : S.Rule) (inside : List Link) (s : Span) : Span → Type 0 where
-    a_piece : {at : Spot} {p : Piece} {w : Span} → Leads n None inside (Some at) → (h : Stands rules names p at) → h.rule ≡ r → s ≡ at.span → IsWritten n filled (told_name (closed r) p) s w → IsShown n filled r inside s w
+    a_piece : {at : Spot} {p : Piece} {w : Span} → Leads n None inside (Some at) → (h : Stands rules names p (plainly at)) → h.rule ≡ r → s ≡ at.span → IsWritten n filled (IsSought filled at.asked (told_name (closed r) p)) s w → IsShown n filled r inside s w
     the_body : name_in r ≡ n → Leads n None inside None → IsSpan (body_tokens r) s → IsShown n filled r inside s s
 
 -- Where the last of the types to which links lead stands in the text.

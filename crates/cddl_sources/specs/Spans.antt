@@ -1,8 +1,9 @@
 -- Parts of a text by the offsets of their tokens.
-use Rattle.std.specs.Prelude.{◌≡◌, Bool, true, false, ℕ, ◌+◌, ◌≤◌, List, [], ◌∷◌, ◌++◌, Option, length}
+use Rattle.std.specs.Prelude.{◌≡◌, Bool, true, false, ℕ, ◌+◌, ◌≤◌, List, [], ◌∷◌, ◌++◌, Option, Some, None, length}
 use Rattle.tree_nodes.specs.Syntax.Syntax as S
 use Rattle.tree_nodes.specs.View.{StartsAt}
 use Rattle.cddl_language.specs.Reading.{name_at, name_in, rule_head}
+use Rattle.type_links.specs.declared.link.Link.{Link}
 use Rattle.cddl_sources.specs.Pieces.{Called, bare_types}
 use Rattle.cddl_sources.specs.declared.span.Span.{Span}
 
@@ -19,11 +20,20 @@ pub record IsSpan (ts : List S.Lexeme) (s : Span) : Type 0 where
   pub ends : EndsAt ts s.end
 
 -- A part of the text in a rule, which is named by its place in the list of rules. Where it is an entry that is one name, it has that
--- name.
+-- name. A type may be asked there that stands elsewhere, as an argument does.
 pub record Spot : Type 0 where
   pub rule : ℕ
   pub span : Span
   pub name : Option Called
+  pub asked : Option Link
+
+-- this type is asked there
+abbrev pub asking : Link → Spot → Spot
+asking m s = record s { asked = Some m }
+
+-- no more than what stands there
+abbrev pub plainly : Spot → Spot
+plainly s = record s { asked = None }
 
 -- it lies within the other part
 abbrev pub IsWithin : Spot → Spot → Type 0

@@ -189,9 +189,9 @@ pub record IsKeyIn (x : TypesInText) (n : ℕ) (from : Option PieceAt) (key : Ty
   pub inside : IsInMapFrom x n from a
 
 -- it is of the second type, the value of an entry whose key is of the first
-pub record IsValueIn (x : TypesInText) (n : ℕ) (from : Option PieceAt) (key m : Link) (a : PieceAt) : Type 0 where
+pub record IsValueIn (x : TypesInText) (n : ℕ) (from : Option PieceAt) (key : TypeId) (m : Link) (a : PieceAt) : Type 0 where
   pub key_origin : TypeOrigin
-  pub key_there : origin_at x key ≡ Some key_origin
+  pub key_there : origin_at x (L.Type key) ≡ Some key_origin
   pub same : a.key ≡ Some key_origin
   pub origin : TypeOrigin
   pub there : origin_at x m ≡ Some origin
@@ -217,17 +217,45 @@ pub record IsUnfilledOf (x : TypesInText) (n : ℕ) (from : Option PieceAt) (key
   pub inside : IsInMapFrom x n from a
   pub unfilled : IsUnfilled x n a
 
--- the same of the first type, where the other link is to a type too
-pub record IsUnfilledIn (x : TypesInText) (n : ℕ) (from : Option PieceAt) (key m : Link) (a : PieceAt) : Type 0 where
+-- the piece, where this type is asked
+abbrev pub asking : Link → PieceAt → PieceAt
+asking m a = record a { asked = Some m }
+
+-- the same of the first type, where the other link is to a type too, which is asked there
+pub record IsUnfilledIn (x : TypesInText) (n : ℕ) (from : Option PieceAt) (key : TypeId) (m : Link) (a : PieceAt) : Type 0 where
   pub key_origin : TypeOrigin
-  pub key_there : origin_at x key ≡ Some key_origin
+  pub key_there : origin_at x (L.Type key) ≡ Some key_origin
   pub origin : TypeOrigin
   pub there : origin_at x m ≡ Some origin
-  pub is : IsUnfilledOf x n from key_origin a
+  pub piece : PieceAt
+  pub is : IsUnfilledOf x n from key_origin piece
+  pub same : a ≡ asking m piece
 
--- it is neither the value of both types nor such a one
-abbrev pub IsNoValue : TypesInText → ℕ → Option PieceAt → (key m : Link) → PieceAt → Type 0
-IsNoValue x n from key m a = (IsValueIn x n from key m a → ⊥) × (IsUnfilledIn x n from key m a → ⊥)
+-- the type is asked in what was found before
+pub record IsAskedIn (x : TypesInText) (from : Option PieceAt) (m : Link) (a : PieceAt) : Type 0 where
+  pub place : PieceAt
+  pub found : from ≡ Some place
+  pub origin : TypeOrigin
+  pub there : origin_at x m ≡ Some origin
+  pub same : a ≡ asking m place
+
+-- what is asked there may stand elsewhere
+pub data IsAway (x : TypesInText) (n : ℕ) (a : PieceAt) : Type 0 where
+  as_before : {k : Link} → a.asked ≡ Some k → IsAway x n a
+  unfilled : IsUnfilled x n a → IsAway x n a
+
+-- the same, where that is so
+abbrev pub IsAskedThere : TypesInText → ℕ → Option PieceAt → Link → PieceAt → Type 0
+IsAskedThere x n from m a = (h : IsAskedIn x from m a) × IsAway x n h.place
+
+-- where the type of a value is asked that is known at no entry
+pub data IsValueAsked (x : TypesInText) (n : ℕ) (from : Option PieceAt) (key : TypeId) (m : Link) (a : PieceAt) : Type 0 where
+  of_unfilled : IsUnfilledIn x n from key m a → IsValueAsked x n from key m a
+  of_map : ((b : PieceAt) → IsUnfilledIn x n from key m b → ⊥) → IsAskedIn x from m a → IsValueAsked x n from key m a
+
+-- it is neither the value of both types nor where that is asked
+abbrev pub IsNoValue : TypesInText → ℕ → Option PieceAt → TypeId → Link → PieceAt → Type 0
+IsNoValue x n from key m a = (IsValueIn x n from key m a → ⊥) × (IsValueAsked x n from key m a → ⊥)
 
 -- the entry has so many alternatives and entries after it
 pub record IsPlacedIn (alternative place : ℕ) (e : Option EntryAt) : Type 0 where
@@ -326,13 +354,18 @@ pub data IsEntryOf (x : TypesInText) : Option PieceAt → (alternative place : �
 
 -- two links lead to it together
 pub data ArePairIn (x : TypesInText) (n : ℕ) (from : Option PieceAt) : Link → Link → PieceAt → Type 0 where
-  of_value : {key m : Link} {a : PieceAt} → IsValueIn x n from key m a → ArePairIn x n from key m a
-  of_unfilled : {key m : Link} {a : PieceAt} → ((b : PieceAt) → IsValueIn x n from key m b → ⊥) → IsUnfilledIn x n from key m a → ArePairIn x n from key m a
+  of_value : {key : TypeId} {m : Link} {a : PieceAt} → IsValueIn x n from key m a → ArePairIn x n from (L.Key key) m a
+  of_asked : {key : TypeId} {m : Link} {a : PieceAt} → ((b : PieceAt) → IsValueIn x n from key m b → ⊥) → IsValueAsked x n from key m a → ArePairIn x n from (L.Key key) m a
   of_entry : {k i : ℕ} {a : PieceAt} → IsEntryOf x from k i a → ArePairIn x n from (L.Alternative k) (L.Entry i) a
+
+-- it is of the type, or that is asked there
+pub data IsTypeOrAsked (x : TypesInText) (n : ℕ) (from : Option PieceAt) (m : Link) (a : PieceAt) : Type 0 where
+  it_is : IsTypeIn x n from m a → IsTypeOrAsked x n from m a
+  it_asks : ((b : PieceAt) → IsTypeIn x n from m b → ⊥) → IsAskedThere x n from m a → IsTypeOrAsked x n from m a
 
 -- one link leads to it by itself
 pub data IsOneIn (x : TypesInText) (n : ℕ) (from : Option PieceAt) : Link → PieceAt → Type 0 where
-  of_type : {m : Link} {a : PieceAt} → IsTypeIn x n from m a → IsOneIn x n from m a
+  of_type : {m : Link} {a : PieceAt} → IsTypeOrAsked x n from m a → IsOneIn x n from m a
   of_key : {key : TypeId} {a : PieceAt} → IsKeyIn x n from key a → IsOneIn x n from (L.Key key) a
 
 abbrev pub AreNoPairIn : TypesInText → ℕ → Option PieceAt → Link → List Link → Type 0
@@ -401,20 +434,37 @@ or_else None k = k
 abbrev pub told_origin : PieceAt → Option TypeOrigin
 told_origin a = or_else a.origin a.key
 
--- a place of this origin in a rule with another number
+-- of what the type is that may be written elsewhere
+
+abbrev pub if_filled : Bool → Option TypeOrigin → Option TypeOrigin
+if_filled true o = o
+if_filled false o = None
+
+abbrev pub sought_by : TypesInText → Option Link → Option TypeOrigin → Option TypeOrigin
+sought_by x (Some m) o = origin_at x m
+sought_by x None o = if_filled x.filled o
+
+abbrev pub sought_in : TypesInText → PieceAt → Option TypeOrigin
+sought_in x a = sought_by x a.asked (told_origin a)
+
+-- where there are arguments, the rule has another number
+abbrev pub IsOther : TypesInText → (number rule : ℕ) → Type 0
+IsOther x n i = x.filled ≡ true → HasNumber x i n → ⊥
+
+-- a place of this origin in such a rule
 pub record IsElsewhere (x : TypesInText) (n : ℕ) (o : TypeOrigin) (a : PieceAt) : Type 0 where
   pub is : IsOfOrigin x o a
-  pub other : HasNumber x a.rule n → ⊥
+  pub other : IsOther x n a.rule
 
--- how the type of this origin is told that stands there
+-- how the type of this origin is told in the place of what stands there
 pub data IsWrittenIn (x : TypesInText) (n : ℕ) (o : Option TypeOrigin) (s : Span) : Span → Type 0 where
-  in_another : {b : PieceAt} {u : TypeOrigin} → x.filled ≡ true → o ≡ Some u → IsElsewhere x n u b → IsWrittenIn x n o s b.span
-  as_it_is : (x.filled ≡ true → (b : PieceAt) (u : TypeOrigin) → o ≡ Some u → IsElsewhere x n u b → ⊥) → IsWrittenIn x n o s s
+  elsewhere : {b : PieceAt} {u : TypeOrigin} → o ≡ Some u → IsElsewhere x n u b → IsWrittenIn x n o s b.span
+  as_it_is : ((b : PieceAt) (u : TypeOrigin) → o ≡ Some u → IsElsewhere x n u b → ⊥) → IsWrittenIn x n o s s
 
 -- What a state tells: what was found in the rules of its name, or else the body of the first of these.
 abbrev pub IsTold : TypesInText → State → Option PieceAt → Place → Type 0
 IsTold x st None p = (a : RuleAt) × (slice_get x.rules.items st.rule ≡ Some a) × (p.name ≡ a.name) × (p.types ≡ a.body) × (p.written ≡ a.body)
-IsTold x st (Some f) p = (a : RuleAt) × (slice_get x.rules.items f.rule ≡ Some a) × (p.name ≡ a.name) × (p.types ≡ f.span) × IsWrittenIn x st.number (told_origin f) f.span p.written
+IsTold x st (Some f) p = (a : RuleAt) × (slice_get x.rules.items f.rule ≡ Some a) × (p.name ≡ a.name) × (p.types ≡ f.span) × IsWrittenIn x st.number (sought_in x f) f.span p.written
 
 -- the link is to an instance of a rule of the text
 abbrev pub HasRule : TypesInText → Link → Type 0

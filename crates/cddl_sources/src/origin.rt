@@ -48,6 +48,7 @@ pub(crate) fn pieces_of<'s>(
             around: around_at(tree, node.node),
             entry: entry_at(node.node),
             name,
+            asked: None,
             span: node_span(tree, node.node),
         };
         push(&mut pieces, piece)?;

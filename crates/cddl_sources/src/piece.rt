@@ -3,6 +3,7 @@
 
 use crate::span::Span;
 use table_making::TypeOrigin;
+use type_links::Link;
 
 // Where an entry stands in its group.
 #[derive(Clone, Copy)]
@@ -36,5 +37,7 @@ pub(crate) struct PieceAt {
     pub(crate) entry: Option<EntryAt>,
     // The name that it is, where it is an entry or a member, and one name alone, with arguments or without.
     pub(crate) name: Option<NameAt>,
+    // The type that is asked there, where that stands elsewhere, as an argument does.
+    pub(crate) asked: Option<Link>,
     pub(crate) span: Span,
 }

@@ -31,8 +31,8 @@ pub struct Place {
     /// The type, without parentheses round all of it. Where none of the types that led to it stands in the rule, it is all that the
     /// rule has after its sign, without such parentheses too.
     pub types: Span,
-    /// How the type is written. In an instance with arguments that is how it is written in a rule of another name, if it is, so that an
-    /// argument is told and not the parameter in whose place it is; else it is what stands there.
+    /// How the type is written. What an argument brings is told as it is written elsewhere, if it is, and not as the parameter in whose
+    /// place it is; else it is what stands there.
     pub written: Span,
 }
 
@@ -287,14 +287,19 @@ impl TypesInText {
     {
         match link {
             Link::Key(key) => self.key_in(alloc, number, found, key),
-            Link::Type(_) => Ok(self.type_in(number, found, link)),
+            Link::Type(_) => Ok(self.type_or_asked(number, found, link)),
             Link::Alternative { .. } => Ok(None),
             Link::Entry { .. } => Ok(None),
         }
     }
 
     // The first place in the rules of the name that is of the type to which the link is, within what was found before.
-    fn type_in(&self, number: u32, found: Option<PieceAt>, link: Link) -> Option<PieceAt>
+    pub(crate) fn type_in(
+        &self,
+        number: u32,
+        found: Option<PieceAt>,
+        link: Link,
+    ) -> Option<PieceAt>
         ensures some { IfSome result (IsTypeIn self.now number found link) }
         ensures none { IfNone result ((a : Piece) → IsTypeIn self.now number found link a → ⊥) }
     {
@@ -315,10 +320,10 @@ impl TypesInText {
         ensures none { IfOk result (λ o. IfNone o ((a : Piece) → ArePairIn self.now number found first link a → ⊥)) }
     {
         match first {
-            Link::Type(_) => self.value_in(alloc, number, found, first, link),
+            Link::Key(key) => self.value_in(alloc, number, found, key, link),
             Link::Alternative { after } => self.entry_after(alloc, number, found, after, link),
             Link::Entry { .. } => Ok(None),
-            Link::Key(_) => Ok(None),
+            Link::Type(_) => Ok(None),
         }
     }
 
@@ -374,22 +379,22 @@ impl TypesInText {
     }
 
     // The first place of the value's type in an entry that has these types as its key and as its value; or where none is known to have
-    // both, of one with this key in a rule with parameters, whose arguments stand elsewhere.
+    // both, where it is asked.
     fn value_in(
         &self,
         alloc: Global,
         number: u32,
         found: Option<PieceAt>,
-        key: Link,
+        key: TypeId,
         link: Link,
     ) -> Result<Option<PieceAt>, AllocError>
-        ensures some { IfOk result (λ o. IfSome o (ArePairIn self.now number found key link)) }
+        ensures some { IfOk result (λ o. IfSome o (ArePairIn self.now number found (Link.Key key) link)) }
         ensures none { IfOk result (λ o. IfNone o ((a : Piece) → IsNoValue self.now number found key link a)) }
     {
         let names = self.spliced_from(alloc, found)?;
         match self.value_by(number, found, &names, key, link) {
             Some(value) => Ok(Some(value)),
-            None => Ok(self.unfilled_by(number, found, &names, key, link)),
+            None => Ok(self.value_asked(number, found, &names, key, link)),
         }
     }
 
@@ -399,14 +404,14 @@ impl TypesInText {
         number: u32,
         found: Option<PieceAt>,
         names: &[bool],
-        key: Link,
+        key: TypeId,
         link: Link,
     ) -> Option<PieceAt>
         requires { AreSplicedFrom self.now found names.now }
         ensures some { IfSome result (IsValueIn self.now number found key link) }
         ensures none { IfNone result ((a : Piece) → IsValueIn self.now number found key link a → ⊥) }
     {
-        let key = self.origin_of(key)?;
+        let key = self.origin_of(Link::Type(key))?;
         let origin = self.origin_of(link)?;
         self.first_value(number, found, names, key, origin)
     }

@@ -29,7 +29,7 @@ returns-in_err-name-clause-grows c = grown _ _ _ c.loop-node.invariant.grows (gr
 pub loop-node-preserved : goal.loop-node-preserved
 loop-node-preserved c = record {
   grows = grown _ _ _ c.loop-node.invariant.grows (grown _ _ _ c.in_ok-origin.ensures.grows (grown _ _ _ c.in_ok-key.ensures.grows c.in_ok-name.ensures.grows));
-  are = one_more_read _ _ (token_of c.args.tree.now) _ _ _ _ _ c.node-item.result c.loop-node.invariant.are (grown _ _ _ c.in_ok-origin.ensures.grows (grown _ _ _ c.in_ok-key.ensures.grows c.in_ok-name.ensures.grows)) (take_more c.args.found.now c.loop-node.node-index _ c.loop-node-test.true ∙ ap (λ (f : Found). take c.loop-node.node-index c.args.found.now ++ f ∷ []) (sym c.node-item.is)) (record { rule = refl; is = record { origin = may_kept _ _ _ _ (grown _ _ _ c.in_ok-key.ensures.grows c.in_ok-name.ensures.grows) c.in_ok-origin.ensures.origin; key = key_kept _ _ _ _ c.in_ok-name.ensures.grows c.in_ok-key.ensures.key; around = c.around_at.ensures; entry = c.entry_at.ensures (token_of c.args.tree.now); name = c.in_ok-name.ensures.name; span = c.node_span.ensures } }) c.in_ok-push.ensures;
+  are = one_more_read _ _ (token_of c.args.tree.now) _ _ _ _ _ c.node-item.result c.loop-node.invariant.are (grown _ _ _ c.in_ok-origin.ensures.grows (grown _ _ _ c.in_ok-key.ensures.grows c.in_ok-name.ensures.grows)) (take_more c.args.found.now c.loop-node.node-index _ c.loop-node-test.true ∙ ap (λ (f : Found). take c.loop-node.node-index c.args.found.now ++ f ∷ []) (sym c.node-item.is)) (record { rule = refl; is = record { origin = may_kept _ _ _ _ (grown _ _ _ c.in_ok-key.ensures.grows c.in_ok-name.ensures.grows) c.in_ok-origin.ensures.origin; key = key_kept _ _ _ _ c.in_ok-name.ensures.grows c.in_ok-key.ensures.key; around = c.around_at.ensures; entry = c.entry_at.ensures (token_of c.args.tree.now); name = c.in_ok-name.ensures.name; own = refl; span = c.node_span.ensures } }) c.in_ok-push.ensures;
 }
 
 pub returns-clause-read : goal.returns-clause-read

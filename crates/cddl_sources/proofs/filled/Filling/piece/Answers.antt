@@ -37,6 +37,7 @@ returns-clause-filled c = λ rs q h.
             around = is.around;
             entry = is.entry;
             name = name_kept old new (name_there p) c.args.piece.name (grown old mid new first second) is.name;
+            own = is.own;
             span = is.span;
           };
     }

@@ -1,7 +1,7 @@
 use Rattle.std.proofs.Common.{subst}
 use Rattle.cddl_sources.specs.Instances.{all_as_written}
 use Rattle.cddl_sources.specs.States.{IsLastIn}
-use Rattle.cddl_sources.proofs.Standing.{no_rule}
+use Rattle.cddl_sources.proofs.Naming.{no_rule}
 use Rattle.cddl_sources.proofs.sources.Sources.place.Goals as goal
 
 pub place_in-requires : goal.place_in-requires

@@ -11,10 +11,10 @@ pub returns-in-Key-clause-none : goal.returns-in-Key-clause-none
 returns-in-Key-clause-none c = ok_then c.key_in.result _ _ (λ o f. none_then o _ _ (λ none a h. none a (one_key c.args.self.now c.args.number c.args.found c.args.link a c.in-Key.is h)) f) c.key_in.ensures.none
 
 pub returns-in-Type-clause-some : goal.returns-in-Type-clause-some
-returns-in-Type-clause-some c = some_then c.type_in.result _ _ (λ a h. of_type h) c.type_in.ensures.some
+returns-in-Type-clause-some c = some_then c.type_or_asked.result _ _ (λ a h. of_type h) c.type_or_asked.ensures.some
 
 pub returns-in-Type-clause-none : goal.returns-in-Type-clause-none
-returns-in-Type-clause-none c = none_then c.type_in.result _ _ (λ none a h. none a (one_type c.args.self.now c.args.number c.args.found c.args.link a c.in-Type.is h)) c.type_in.ensures.none
+returns-in-Type-clause-none c = none_then c.type_or_asked.result _ _ (λ none a h. none a (one_type c.args.self.now c.args.number c.args.found c.args.link a c.in-Type.is h)) c.type_or_asked.ensures.none
 
 pub returns-in-Alternative-clause-none : goal.returns-in-Alternative-clause-none
 returns-in-Alternative-clause-none c = λ a h. no_one_alternative c.args.self.now c.args.number c.args.found c.args.link a c.in-Alternative.is h

@@ -2,7 +2,8 @@ use Rattle.std.proofs.Common.{Contains, Option, subst}
 use Rattle.type_links.specs.declared.link.Link.{Link}
 use Rattle.cddl_sources.specs.States.{HasNoRule, IsStateAfter, IsStateOf}
 use Rattle.cddl_sources.specs.declared.place.State.{State}
-use Rattle.cddl_sources.proofs.Standing.{is_place, no_rule}
+use Rattle.cddl_sources.proofs.Naming.{no_rule}
+use Rattle.cddl_sources.proofs.Telling.{is_place}
 use Rattle.cddl_sources.proofs.Stepping.{found_there, none_then, some_then}
 use Rattle.cddl_sources.proofs.sources.TypesInText.told_last.Goals as goal
 

@@ -6,5 +6,8 @@ use Rattle.cddl_sources.proofs.sources.TypesInText.unfilled_by.Goals as goal
 pub returns-in_err-key-clause-none : goal.returns-in_err-key-clause-none
 returns-in_err-key-clause-none c = if_none c.from_residual.result _ (λ a h. some_none (sym h.key_there ∙ sym c.in_err-key.ensures))
 
-pub returns-clause-none : goal.returns-clause-none
-returns-clause-none c = none_then c.first_unfilled.result _ _ (λ none a h. no_unfilled c.args.self.now c.args.number c.args.found c.args.key c.args.link a (sym c.in_ok-key.ensures) none h) c.first_unfilled.ensures.none
+pub returns-in_err-piece-clause-none : goal.returns-in_err-piece-clause-none
+returns-in_err-piece-clause-none c = if_none c.from_residual-in_err-piece.result _ (λ a h. no_unfilled c.args.self.now c.args.number c.args.found c.args.key c.args.link a (sym c.in_ok-key.ensures) c.in_err-piece.ensures.none h)
+
+pub returns-clause-some : goal.returns-clause-some
+returns-clause-some c = any_unfilled c.args.self.now c.args.number c.args.found c.args.key c.args.link c.asking.result c.in_ok-piece.piece (sym c.in_ok-key.ensures) (sym c.in_ok.ensures) c.in_ok-piece.ensures.some c.asking.ensures

@@ -1,10 +1,11 @@
-use Rattle.std.proofs.Common.{sym, ◌∙◌}
-use Rattle.lists.proofs.Lemmas.{not_both, some_none}
-use Rattle.cddl_sources.specs.States.{as_it_is}
+use Rattle.std.proofs.Common.{Option, sym, subst, ◌∙◌}
+use Rattle.lists.proofs.Lemmas.{some_none}
+use Rattle.table_making.specs.declared.origin.TypeOrigin.{TypeOrigin}
+use Rattle.cddl_sources.specs.States.{IsWrittenIn, as_it_is}
 use Rattle.cddl_sources.proofs.sources.TypesInText.written.Goals as goal
 
-pub returns-then-not-self : goal.returns-then-not-self
-returns-then-not-self c = as_it_is (λ f b u e h. not_both c.args.self.now.filled f c.if-not-self.true)
+pub returns-in-Some : goal.returns-in-Some
+returns-in-Some c = subst (λ (o : Option TypeOrigin). IsWrittenIn c.args.self.now c.args.number o c.args.found.span c.written_of.result) (sym c.in-Some.is ∙ c.sought.ensures) c.written_of.ensures
 
 pub returns-in-None : goal.returns-in-None
-returns-in-None c = as_it_is (λ f b u e h. some_none (sym e ∙ (sym c.told_origin.ensures ∙ c.in-None.is)))
+returns-in-None c = as_it_is (λ b u e h. some_none (sym e ∙ (sym c.sought.ensures ∙ c.in-None.is)))
