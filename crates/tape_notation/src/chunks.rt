@@ -15,7 +15,7 @@ use std::alloc::AllocError;
 const BREAK: u8 = 0xff;
 
 /// Puts the hex digits of what the chunks of a byte string hold.
-pub fn put_byte_chunks(
+pub(crate) fn put_byte_chunks(
     out: &mut Vec<u8>,
     at: usize,
     bytes: &[u8],
@@ -36,7 +36,7 @@ pub fn put_byte_chunks(
 }
 
 /// Puts what the chunks of a text hold, as it is shown between quotes.
-pub fn put_text_chunks(
+pub(crate) fn put_text_chunks(
     out: &mut Vec<u8>,
     at: usize,
     bytes: &[u8],

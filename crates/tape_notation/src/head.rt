@@ -5,7 +5,7 @@ ghost use Rattle.tape_notation.specs.Heads.{HasHead, IsReadAt};
 
 /// The argument of the head at `at`, and where the head ends.
 #[inline(always)]
-pub fn head_at(bytes: &[u8], at: usize) -> (u64, usize)
+pub(crate) fn head_at(bytes: &[u8], at: usize) -> (u64, usize)
     requires { HasHead bytes.now at }
     ensures { IsReadAt bytes.now at result.0 result.1 }
 {

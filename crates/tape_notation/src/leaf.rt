@@ -19,7 +19,7 @@ const TEXT_TO_BREAK: u8 = 0x7f;
 
 /// Puts the notation of the number or the string at `head`.
 #[inline(always)]
-pub fn put_plain(
+pub(crate) fn put_plain(
     out: &mut Vec<u8>,
     at: usize,
     bytes: &[u8],
@@ -100,7 +100,7 @@ fn put_bytes(out: &mut Vec<u8>, at: usize, bytes: &[u8]) -> Result<usize, AllocE
 }
 
 /// Puts the notation of the simple value or the float at `head`.
-pub fn put_last(
+pub(crate) fn put_last(
     out: &mut Vec<u8>,
     at: usize,
     bytes: &[u8],

@@ -10,7 +10,7 @@ use std::alloc::AllocError;
 
 /// Puts the text at `at`, and answers where it ends.
 #[inline(always)]
-pub fn put(out: &mut Vec<u8>, at: usize, text: &[u8]) -> Result<usize, AllocError>
+pub(crate) fn put(out: &mut Vec<u8>, at: usize, text: &[u8]) -> Result<usize, AllocError>
     requires { at ≤ length out.old.items }
     ensures { IfOk result (λ end. IsPut out.old.items out.new.items at text.now end) }
 {
@@ -54,7 +54,7 @@ fn lengthen(out: &mut Vec<u8>, least: usize) -> Result<(), AllocError>
 }
 
 /// Makes the vector as long as this.
-pub fn extend_to(out: &mut Vec<u8>, len: usize) -> Result<(), AllocError>
+pub(crate) fn extend_to(out: &mut Vec<u8>, len: usize) -> Result<(), AllocError>
     requires { length out.old.items ≤ len }
     ensures long { OnOk result (len ≤ length out.new.items) }
     ensures front { OnOk result (take (length out.old.items) out.new.items ≡ out.old.items) }
@@ -64,7 +64,7 @@ pub fn extend_to(out: &mut Vec<u8>, len: usize) -> Result<(), AllocError>
 
 /// Puts what parts the member or pair that has so many before it from the one before.
 #[inline(always)]
-pub fn put_comma(out: &mut Vec<u8>, at: usize, before: usize) -> Result<usize, AllocError>
+pub(crate) fn put_comma(out: &mut Vec<u8>, at: usize, before: usize) -> Result<usize, AllocError>
     requires { at ≤ length out.old.items }
     ensures { IfOk result (λ end. IsPut out.old.items out.new.items at (comma before) end) }
 {
@@ -76,7 +76,7 @@ pub fn put_comma(out: &mut Vec<u8>, at: usize, before: usize) -> Result<usize, A
 
 /// Puts the number in decimal.
 #[inline(always)]
-pub fn put_number(out: &mut Vec<u8>, at: usize, n: u64) -> Result<usize, AllocError>
+pub(crate) fn put_number(out: &mut Vec<u8>, at: usize, n: u64) -> Result<usize, AllocError>
     requires { at ≤ length out.old.items }
     ensures { IfOk result (λ end. IsPut out.old.items out.new.items at (decimal n) end) }
 {
@@ -85,7 +85,7 @@ pub fn put_number(out: &mut Vec<u8>, at: usize, n: u64) -> Result<usize, AllocEr
 }
 
 /// Puts the number -1 - n in decimal.
-pub fn put_negative(out: &mut Vec<u8>, at: usize, n: u64) -> Result<usize, AllocError>
+pub(crate) fn put_negative(out: &mut Vec<u8>, at: usize, n: u64) -> Result<usize, AllocError>
     requires { at ≤ length out.old.items }
     ensures { IfOk result (λ end. IsPut out.old.items out.new.items at (codes "-" ++ decimal (n + 1)) end) }
 {
@@ -98,7 +98,7 @@ pub fn put_negative(out: &mut Vec<u8>, at: usize, n: u64) -> Result<usize, Alloc
 }
 
 /// Puts two hex digits for each byte.
-pub fn put_hex(out: &mut Vec<u8>, at: usize, bytes: &[u8]) -> Result<usize, AllocError>
+pub(crate) fn put_hex(out: &mut Vec<u8>, at: usize, bytes: &[u8]) -> Result<usize, AllocError>
     requires { at ≤ length out.old.items }
     ensures { IfOk result (λ end. IsPut out.old.items out.new.items at (encode_lower bytes.now) end) }
 {

@@ -7,7 +7,7 @@ use crate::put::{put, put_hex};
 use std::alloc::AllocError;
 
 /// Puts the text between quotes.
-pub fn put_text(out: &mut Vec<u8>, at: usize, bytes: &[u8]) -> Result<usize, AllocError>
+pub(crate) fn put_text(out: &mut Vec<u8>, at: usize, bytes: &[u8]) -> Result<usize, AllocError>
     requires { at ≤ length out.old.items }
     ensures { IfOk result (λ end. IsPut out.old.items out.new.items at (text_notation bytes.now) end) }
 {
@@ -17,7 +17,7 @@ pub fn put_text(out: &mut Vec<u8>, at: usize, bytes: &[u8]) -> Result<usize, All
 }
 
 /// Puts the text as it is shown between quotes.
-pub fn put_shown(out: &mut Vec<u8>, at: usize, bytes: &[u8]) -> Result<usize, AllocError>
+pub(crate) fn put_shown(out: &mut Vec<u8>, at: usize, bytes: &[u8]) -> Result<usize, AllocError>
     requires { at ≤ length out.old.items }
     ensures { IfOk result (λ end. IsPut out.old.items out.new.items at (flat_map shown_byte bytes.now) end) }
 {
