@@ -1,44 +1,35 @@
 -- What numbers say of places is so of the names for which the table's types stand.
-use Rattle.std.proofs.Common.{◌≡◌, ◌++◌, ℕ, ◌+◌, ◌<◌, drop, if◌then◌else◌, nat_eq, arith, Bool, true, false, List, [], ◌∷◌, Option, Some, None, option_map, slice_get, refl, sym, ap, subst, ◌∙◌}
+use Rattle.std.proofs.Common.{◌≡◌, ℕ, ◌+◌, ◌<◌, drop, if◌then◌else◌, nat_eq, arith, Bool, true, false, List, [], ◌∷◌, Option, Some, None, option_map, slice_get, refl, sym, ap, subst, ◌∙◌}
 use Rattle.std.specs.List.{Contains}
-use Rattle.std.proofs.lemmas.Option.{slice_get-map}
-use Rattle.lists.proofs.Lemmas.{contains_at, is_equal, no_some, one_of, place_of, same_some, some_none, test_equal}
+use Rattle.lists.proofs.Lemmas.{is_equal, no_some, one_of, same_some, some_none, test_equal}
 use Rattle.tree_nodes.specs.Syntax.Syntax as S
-use Rattle.cddl_language.specs.Language.{TypeName, reference, type, word}
-use Rattle.cddl_language.specs.Reading.{name_in, rules_of, term_of, text_of}
-use Rattle.cddl_language.specs.Terms.{Ref, Term, Text, call, name_of}
-use Rattle.check_terms.specs.Table.{Table, part, some_text}
-use Rattle.check_terms.specs.Trees.{IsRef, IsTerm}
+use Rattle.cddl_language.specs.Language.{TypeName}
+use Rattle.cddl_language.specs.Reading.{name_in, rules_of}
+use Rattle.cddl_language.specs.Terms.{Term, Text}
+use Rattle.check_terms.specs.Table.{Table}
 use Rattle.table_making.specs.Basis.{Sense}
 use Rattle.table_making.specs.Nodes.{IsNameOfType}
-use Rattle.table_making.specs.Origins.{IsTypeOrigin, of_row, of_instance, of_word}
 use Rattle.table_making.specs.declared.origin.TypeOrigin.{TypeOrigin}
-use Rattle.table_making.specs.declared.origin.TypeOrigin.TheVariants as T
 use Rattle.table_nodes.specs.declared.nodes.TypeId.{TypeId}
 use Rattle.table_making.specs.declared.making.Nodes.{Nodes}
 use Rattle.type_links.specs.declared.link.Link.{Link}
 use Rattle.type_links.specs.declared.link.Link.TheVariants as L
-use Rattle.cddl_sources.specs.Instances.{has_arguments, term_in}
-use Rattle.cddl_sources.specs.Origins.{AreRound, AreRoundIt, IsClosedKey, IsClosedOrigin, IsClosedPiece, IsNumberOf, MayBeClosed, MayBeIn, Stands as IsThere, called_in, in_its_place, is_of, may_be_group, no_type, of_type, of_value as of_keyed, of_word as of_token}
+use Rattle.cddl_sources.specs.Origins.{AreRound, AreRoundIt, IsClosedKey, IsClosedPiece, IsNumberOf, MayBeClosed, MayBeIn, Stands as IsThere, called_in}
 use Rattle.cddl_sources.specs.Pieces.{Around, Called, Piece, a_key, a_member, a_type, a_value, a_word, an_entry, brackets, in_rule, name_there, plain, the_rule, name_of_piece, told_name, tokens_of_piece, unwrapped}
-use Rattle.cddl_sources.specs.Places.{AreAlike, AreEnds, AreNoPair, ArePairAt, BeginsWithInstance, IsEntryAt, IsEntryNamed, IsEntryUnwrapped, IsEntryWithin, IsKeyAt, IsOf, IsOfNoRule, IsOneAt, IsPlace, IsShown, IsSpliced, IsTypeAt, IsUnfilledAt, IsValueAt, IsWritten, Leads, LeadsTo, Stands, StandsAt, StandsFor, StandsIn, a_piece, alone, are_ends, arrives, as_it_is, by_unwrapping, in_a_rule, in_group, in_map, itself, named, named_alone, named_in_group, named_in_map, of_entry, of_key, of_type as of_one_type, of_unfilled, of_value, passes, the_body, to_one, to_pair, within, IsSought, IsValueAsked as IsValueAskedAt, elsewhere, of_asked, of_map, IsAskedIn as IsAskedAt, IsAway as IsAwayAt, as_before, of_argument, unfilled}
+use Rattle.cddl_sources.specs.Places.{AreAlike, AreEnds, AreNoPair, ArePairAt, IsEntryAt, IsEntryNamed, IsEntryUnwrapped, IsEntryWithin, IsKeyAt, IsOf, IsOneAt, IsSpliced, IsTypeAt, IsUnfilledAt, IsValueAt, IsWritten, Leads, Stands, StandsAt, StandsFor, StandsIn, alone, are_ends, arrives, as_it_is, by_unwrapping, in_a_rule, in_group, in_map, itself, named, named_alone, named_in_group, named_in_map, of_entry, of_key, of_type as of_one_type, of_unfilled, of_value, passes, to_one, to_pair, within, IsSought, IsValueAsked as IsValueAskedAt, elsewhere, of_asked, of_map, IsAskedIn as IsAskedAt, IsAway as IsAwayAt, as_before, of_argument, unfilled}
 use Rattle.cddl_sources.specs.Sources.{AreTypesOf, IsRuleAt}
-use Rattle.cddl_sources.specs.Spans.{IsNameSpan, IsSpan, IsWithin, Spot, body_tokens, asking, plainly, is_generic}
+use Rattle.cddl_sources.specs.Spans.{IsWithin, Spot, body_tokens, asking, plainly, is_generic}
 use Rattle.cddl_sources.specs.Walk.{called}
-use Rattle.cddl_sources.specs.States.{AreAlikeIn, AreNoPairIn, ArePairIn, ArePassed, HasNoRule, HasNumber, IsEntryNamed as IsNamedNumbers, IsEntryOf, IsEntryUnwrapped as IsUnwrappedNumbers, IsEntryWithin as IsWithinNumbers, IsFoundAfter, IsFrom, IsInBody, IsKeyIn, IsMember, IsOfLast, IsOneIn, IsSplicedIn, IsStateAfter, IsTold, IsTypeIn, IsInMapFrom, IsUnfilledIn, IsValueIn, IsWrittenIn, LeadsIn, alone as numbers_alone, arrives as by_none, as_it_is as by_itself, by_unwrapping as by_unwrapped, count_in, counted, ends_of, flattened, named as by_name, name_number, number_at, number_in, named_alone as numbered_alone, named_in_group as numbered_in_group, named_in_map as numbered_in_map, of_entry as by_entry, of_key as by_key, of_type as by_type, of_unfilled as by_unfilled, of_value as by_value, origin_at, passes as gone_by, text_in, to_one as by_one, to_pair as by_pair, itself as number_itself, in_its_group, in_its_brackets, plain_name, told_origin, unwrapped_name, within as by_brackets, IsValueAsked, asking as asking_at, elsewhere as by_elsewhere, if_filled, of_asked as by_asked, of_map as by_map, sought_by, IsAskedIn, IsAway, as_before as by_before, it_asks, it_is, unfilled as by_unfilled_rule, IsUnfilled}
+use Rattle.cddl_sources.specs.States.{AreAlikeIn, AreNoPairIn, ArePairIn, HasNumber, IsEntryNamed as IsNamedNumbers, IsEntryOf, IsEntryUnwrapped as IsUnwrappedNumbers, IsEntryWithin as IsWithinNumbers, IsFrom, IsInBody, IsKeyIn, IsMember, IsOneIn, IsSplicedIn, IsTypeIn, IsInMapFrom, IsUnfilledIn, IsValueIn, IsWrittenIn, LeadsIn, alone as numbers_alone, arrives as by_none, as_it_is as by_itself, by_unwrapping as by_unwrapped, count_in, counted, ends_of, named as by_name, named_alone as numbered_alone, named_in_group as numbered_in_group, named_in_map as numbered_in_map, of_entry as by_entry, of_key as by_key, of_type as by_type, of_unfilled as by_unfilled, of_value as by_value, origin_at, passes as gone_by, to_one as by_one, to_pair as by_pair, itself as number_itself, in_its_group, in_its_brackets, plain_name, told_origin, unwrapped_name, within as by_brackets, IsValueAsked, asking as asking_at, elsewhere as by_elsewhere, if_filled, of_asked as by_asked, of_map as by_map, sought_by, IsAskedIn, IsAway, as_before as by_before, it_asks, it_is, unfilled as by_unfilled_rule, IsUnfilled}
 use Rattle.cddl_sources.specs.declared.piece.EntryAt.{EntryAt}
 use Rattle.cddl_sources.specs.declared.piece.NameAt.{NameAt}
 use Rattle.cddl_sources.specs.declared.piece.PieceAt.{PieceAt}
-use Rattle.cddl_sources.specs.declared.place.Place.{Place}
-use Rattle.cddl_sources.specs.declared.place.State.{State}
 use Rattle.cddl_sources.specs.declared.sources.RuleAt.{RuleAt}
 use Rattle.cddl_sources.specs.declared.sources.TypesInText.{TypesInText}
 use Rattle.cddl_sources.specs.declared.span.Span.{Span}
 use Rattle.cddl_sources.proofs.Calling.{number_there, plain_there, text_at, unwrapped_text, unwrapped_there}
 use Rattle.cddl_sources.proofs.Counting.{AreLike, counted_so, has_number, like_drop, make}
 use Rattle.cddl_sources.proofs.Ending.{one_end, one_start}
-use Rattle.cddl_sources.proofs.Growing.{kept}
-use Rattle.cddl_sources.proofs.Stepping.{found_piece}
 use Rattle.cddl_sources.proofs.Told.{may_name, value_typed, one_name, one_origin, origin_of, piece_name, place_alone, told_by, told_with}
 use Rattle.cddl_sources.proofs.Naming.{led_from, led_to, named_piece, named_rule, type_origin, value_is_of}
 
@@ -52,7 +43,7 @@ module _ (s : Sense) (terms : Table) (nodes : Nodes) (x : TypesInText) (closed :
   abbrev pub spot : PieceAt → Spot
   spot a = spot_of k.made.more a
 
-  name_there_is : (o : Option Called) (m : Option NameAt) → IsNumberOf k.made.more o m → text_at k.made.more m ≡ o
+  pub name_there_is : (o : Option Called) (m : Option NameAt) → IsNumberOf k.made.more o m → text_at k.made.more m ≡ o
   name_there_is None m h = ap (text_at k.made.more) h
   name_there_is (Some y) m h = ap (text_at k.made.more) h.1 ∙ h.2
 
@@ -539,7 +530,7 @@ module _ (s : Sense) (terms : Table) (nodes : Nodes) (x : TypesInText) (closed :
         by (a_member o z) d g b there = absurd (some_none (sym h.is.same ∙ g))
         by (an_entry o j i e) d g b there = absurd (some_none (sym h.is.same ∙ g))
 
-    asked_place_at : (from : Option PieceAt) (m : Link) (a : PieceAt) → IsAskedIn x from m a → IsAskedAt (rules_of s.tree) (IsNameOfType s terms nodes) closed (option_map spot from) m (spot a)
+    abbrev asked_place_at : (from : Option PieceAt) (m : Link) (a : PieceAt) → IsAskedIn x from m a → IsAskedAt (rules_of s.tree) (IsNameOfType s terms nodes) closed (option_map spot from) m (spot a)
     asked_place_at from m a h = record { place = spot h.place; found = ap (option_map spot) h.found; value = led_to s terms nodes x closed k m h.origin h.there; is = ap spot h.same }
 
     away_at : (a : PieceAt) → IsAway x n a → IsAwayAt (rules_of s.tree) (IsNameOfType s terms nodes) closed y (spot a)
@@ -713,7 +704,8 @@ module _ (s : Sense) (terms : Table) (nodes : Nodes) (x : TypesInText) (closed :
   written_asked n y e m o own w (by_elsewhere {b = b} {u = u} told h) =
       let at = k.made.pieces.each b h.is.contained in
       let named = named_piece s terms nodes x closed k (spot b) at.rule at.there at.piece u m told (origin_of k.made.more at.piece b.origin u at.is.origin h.is.same) in
-      elsewhere named.4 (stands b at) (λ f g. h.other f (rule_number b.rule b.rule n y at.rule refl at.there g e)) named.3
+      let same : named.0 ≡ at.rule = one_of (slice_get (rules_of s.tree) b.rule) named.0 at.rule named.1 at.there in
+      elsewhere named.4 (stands b at) (λ f g. h.other f (rule_number b.rule b.rule n y at.rule refl at.there g e)) (subst (λ (r : S.Rule). name_of_piece (closed r) at.piece ≡ Some named.2) same named.3)
   written_asked n y e m o own w (by_itself none) =
       as_it_is
       (λ p at z sought h other is.

@@ -294,12 +294,7 @@ impl TypesInText {
     }
 
     // The first place in the rules of the name that is of the type to which the link is, within what was found before.
-    pub(crate) fn type_in(
-        &self,
-        number: u32,
-        found: Option<PieceAt>,
-        link: Link,
-    ) -> Option<PieceAt>
+    pub(crate) fn type_in(&self, number: u32, found: Option<PieceAt>, link: Link) -> Option<PieceAt>
         ensures some { IfSome result (IsTypeIn self.now number found link) }
         ensures none { IfNone result ((a : Piece) → IsTypeIn self.now number found link a → ⊥) }
     {

@@ -83,9 +83,13 @@ impl TypesInText {
         ensures some { IfSome result (IsAskedThere self.now number found link) }
         ensures none { IfNone result ((a : Piece) → IsAskedThere self.now number found link a → ⊥) }
     {
-        match found {
-            Some(place) if self.is_away(place, number) => self.asked_in(found, link),
-            _ => None,
+        let Some(place) = found else {
+            return None;
+        };
+        if self.is_away(place, number) {
+            self.asked_in(found, link)
+        } else {
+            None
         }
     }
 
