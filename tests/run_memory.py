@@ -52,6 +52,10 @@ COMMANDS = [
     ["validate", "--explain", "a = [? int, int]\n", "\x81\n"],
     ["validate", "--explain", "m = { uint => any, * uint => any }\n", "\xa2\x00\n\x01\n"],
     ["validate", "--explain", "--root", "tstr", "a = int\n", "\n"],
+    # entries behind ~ and in groups with arguments, and types of a rule with arguments
+    ["validate", "--explain", "m = { ~r, ~s<int> }\nr = q\nq = { a: tstr }\ns<t> = { b: t }\n", "\xa2aaaxab`\n"],
+    ["validate", "--explain", "r = m<int>\nm<t> = { a: t, * g<t> }\ng<s> = ( tstr => s )\n", "\xa1aaax\n"],
+    ["validate", "--explain", "a = [~b, g<int>]\nb = [tstr, c]\nc = uint\ng<t> = (t, t)\n", "\x84ax\x01\x01ay\n"],
     ["rewrite", "--explain", "r = [int, tstr]\n", "\x82\x01ax\x81\n"],
     ["check", "--explain", "a = [~b, 0..tstr, {int, * (c: int, d: int)}, a .eq uint]\nb = int\n"],
     ["check", "r = [a]\na = [g]\ng = (? int, g)\n"],
