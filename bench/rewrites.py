@@ -13,8 +13,8 @@ they and the sizes take turns, and the best processor time of each counts. The c
 
 N is the number of pairs of the smaller maps, 50,000 if left out. The streams are made in bench/data. The status is 1 where
 a ratio is above 1.3 on maps whose keys rise, or above 2.5 on maps whose pairs come in no order; where a growth is above
-2.2; or where an item of 4 MB in 250 maps, each the first of two keys of the next, or each a value of the next, takes more
-than 5 s.
+2.2 or, where pairs are sorted, which takes n log n and more where they are more than the processor's caches hold, above 2.6;
+or where an item of 4 MB in 250 maps, each the first of two keys of the next, or each a value of the next, takes more than 5 s.
 """
 import argparse
 import os
@@ -26,7 +26,8 @@ import sys
 from streams import DATA, MIB, encoded, head
 
 RUNS = 5
-MOST_RISING, MOST_SHUFFLED, MOST_GROWTH, MOST_SECONDS = 1.3, 2.5, 2.2, 5
+MOST_RISING, MOST_SHUFFLED, MOST_SECONDS = 1.3, 2.5, 5
+MOST_GROWTH_RISING, MOST_GROWTH_SHUFFLED = 2.2, 2.6
 DEPTH, LONG = 250, 4_000_000
 
 
@@ -111,7 +112,7 @@ def main():
                       + (f"{growth:8.2f}" if size else ""), flush=True)
             if best[1][1] / best[1][0] > (MOST_RISING if is_rising else MOST_SHUFFLED):
                 bad.append(f"the ratio for {title}")
-            if growth > MOST_GROWTH:
+            if growth > (MOST_GROWTH_RISING if is_rising else MOST_GROWTH_SHUFFLED):
                 bad.append(f"the growth for {title}")
     for title, make in (("4 MB in 250 keys", deep_keys), ("4 MB in 250 values", deep_values)):
         taken = seconds(ordered, path_of(make.__name__, make()))
