@@ -52,8 +52,8 @@ bench: build lib
 	@$(PYTHON) bench/run.py build/cddlseq
 	@$(PYTHON) bench/rewrites.py build/cddlseq
 	@$(PYTHON) bench/decoders.py build/cddlseq
-	cd crates/cddl_outline && $(RT) run < /dev/null > /dev/null
-	@$(PYTHON) bench/tokens.py crates/cddl_outline/out/cddl_outline
+	@$(PYTHON) scripts/build.py --rt "$(RT)" cddl_outline build/cddl_outline
+	@$(PYTHON) bench/tokens.py build/cddl_outline
 	@$(PYTHON) bench/specifications.py build/cddlseq
 	@$(PYTHON) bench/explanations.py build/cddlseq
 	@$(PYTHON) bench/limits.py build/cddlseq

@@ -82,7 +82,7 @@ def something_to_explain(program, folder):
     for name, front, unit, back, item, status in TO_EXPLAIN:
         stream = written(folder, "stream.cborseq", item)
         paths = [written(folder, f"s{k}.cddl", filled(front, unit, back, size)) for k, size in enumerate(SIZES)]
-        (_, small), (without, large) = (least_times(program, ["validate", path, stream], status, 2 * RUNS) for path in paths)
+        (_, small), (without, large) = (least_times(program, ["validate", path, stream], status, 4 * RUNS) for path in paths)
         print(f"{name:44} {1000 * large:10.0f} {large / without:10.2f} {large / small:7.2f}", flush=True)
         bad = bad or large / small > MOST_GROWTH
     return bad

@@ -4,8 +4,9 @@ maps, and on byte strings that hold items.
 
     specifications.py PROGRAM
 
-'PROGRAM check' reads each specification a few times, the two sizes and an empty one taking turns, and the processor
-times are added; what the empty one costs is taken off. The columns: the speed on the larger specification, in MiB/s,
+'PROGRAM check' reads each specification a few times, the two sizes and an empty one taking turns, and the least processor
+time of each counts; what the empty one costs is taken off. Where the growth is out of bounds they are read again, and the
+least of all counts, since a processor may be slow for seconds. The columns: the speed on the larger specification, in MiB/s,
 the growth of the processor time from the smaller one to the larger, which is 2 where the cost grows with the size
 alone, and the peak memory on the larger one for each of its bytes. Then 'PROGRAM validate' reads a stream of arrays
 of some 100 bytes against a specification that asks about each item in them, and against 'any', by turns; the ratio of
@@ -37,7 +38,7 @@ from streams import encoded, head, map_of_numbers, map_of_texts
 
 KIB = 1 << 10
 SIZES = 256 * KIB, 512 * KIB
-RUNS = 3
+RUNS, MOST_ROUNDS = 3, 5
 LEAST, MOST = 1.4, 2.8
 MOST_RATIO = 1.3
 MESSAGES = 40_000
@@ -161,16 +162,16 @@ def check_all(program, folder):
             with open(path, "w", encoding="ascii") as file:
                 file.write("r = int\n" if size is None else make(size))
             paths.append(path)
-        times, peak = [0.0] * 3, 0
-        for _ in range(RUNS):
-            for k, path in enumerate(paths):
+        times, peak = [float("inf")] * 3, 0
+        for _ in range(MOST_ROUNDS):
+            for k, path in [*enumerate(paths)] * RUNS:
                 taken, memory = spent([program, "check", path], answer if k else ACCEPTED)
-                times[k] += taken
-                peak = max(peak, memory)
-        small, large = (max(time - times[0], 1e-6) for time in times[1:])
-        growth, length = large / small, os.path.getsize(paths[2])
-        bad = bad or not LEAST <= growth <= MOST
-        print(f"{name:36} {RUNS * length / (1 << 20) / large:8.2f} {growth:7.2f} {peak / length:9.0f}", flush=True)
+                times[k], peak = min(times[k], taken), max(peak, memory)
+            small, large = (max(time - times[0], 1e-6) for time in times[1:])
+            if LEAST <= (growth := large / small) <= MOST:
+                break
+        length, bad = os.path.getsize(paths[2]), bad or not LEAST <= growth <= MOST
+        print(f"{name:36} {length / (1 << 20) / large:8.2f} {growth:7.2f} {peak / length:9.0f}", flush=True)
     return bad
 
 
@@ -213,7 +214,7 @@ def least_times(program, specifications, paths):
     adds to a time, so the least is the nearest. Each run names the stream by a longer path, since it lies with the length of what
     the program keeps first whether the C library gives its heap back to the system behind each item, and takes it anew."""
     times = [dict.fromkeys(specifications, float("inf")) for _ in paths]
-    for run in range(2 * RUNS):
+    for run in range(4 * RUNS):
         for path, found in zip(paths, times):
             for name, specification in specifications.items():
                 taken, _ = spent([program, "validate", specification, longer(path, 8 * run)])

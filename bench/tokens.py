@@ -3,8 +3,9 @@
 
     tokens.py PROGRAM     PROGRAM counts the tokens and the rules of what is behind the first byte of its standard input
 
-A run takes a few milliseconds, so the times of many runs are added, the two sizes and an empty source taking turns; what
-the empty source costs is taken off. The columns: the speed on the larger source, in MiB/s of processor time, and the
+The two sizes and an empty source take turns, many times, and the least time of each counts, since other work on the machine
+only adds to a time; what the empty source costs is taken off. Where the growth is out of bounds they are run again, and the
+least of all counts, since a processor may be slow for seconds. The columns: the speed on the larger source, in MiB/s of processor time, and the
 growth of the processor time from the smaller source to the larger, which is 2 where the cost grows with the size alone.
 The status is 1 where a growth is outside 1.4 to 2.8.
 """
@@ -20,9 +21,11 @@ KIB = 1 << 10
 # What is before a text that the program only counts.
 COUNTED = b"\xff"
 # What only the scanner takes time for, and what the parser does too: the sizes, and how many runs.
-SCANNED = (512 * KIB, 1024 * KIB), 80
-PARSED = (256 * KIB, 512 * KIB), 4
+SCANNED = (512 * KIB, 1024 * KIB), 40
+PARSED = (256 * KIB, 512 * KIB), 8
 LEAST, MOST = 1.4, 2.8
+# How often a growth is measured.
+MOST_ROUNDS = 5
 
 
 def padded(front, unit, back, size):
@@ -65,8 +68,8 @@ SPECIFICATIONS = [
 
 
 def seconds(program, sources, runs):
-    """The processor time of so many runs on each of these sources, by turns."""
-    spent = [0.0] * len(sources)
+    """The least processor time of so many runs on each of these sources, by turns."""
+    spent = [float("inf")] * len(sources)
     with contextlib.ExitStack() as stack:
         files = [stack.enter_context(tempfile.TemporaryFile()) for _ in sources]
         for file, source in zip(files, sources):
@@ -77,7 +80,8 @@ def seconds(program, sources, runs):
                 before = resource.getrusage(resource.RUSAGE_CHILDREN)
                 subprocess.run([program], stdin=file, stdout=subprocess.DEVNULL, check=True)
                 after = resource.getrusage(resource.RUSAGE_CHILDREN)
-                spent[i] += (after.ru_utime - before.ru_utime) + (after.ru_stime - before.ru_stime)
+                taken = (after.ru_utime - before.ru_utime) + (after.ru_stime - before.ru_stime)
+                spent[i] = min(spent[i], taken)
     return spent
 
 
@@ -90,11 +94,14 @@ def main():
     for texts, (sizes, runs) in ((TEXTS, SCANNED), (SPECIFICATIONS, PARSED)):
         for name, front, unit, back in texts:
             sources = [b"", *(padded(front, unit, back, size) for size in sizes)]
-            empty, small, large = seconds(program, sources, runs)
-            small, large = max(small - empty, 1e-6), max(large - empty, 1e-6)
-            growth = large / small
+            least = [float("inf")] * len(sources)
+            for _ in range(MOST_ROUNDS):
+                least = list(map(min, least, seconds(program, sources, runs)))
+                small, large = (max(time - least[0], 1e-6) for time in least[1:])
+                if LEAST <= (growth := large / small) <= MOST:
+                    break
             bad = bad or not LEAST <= growth <= MOST
-            print(f"{name:30} {runs * sizes[1] / (1 << 20) / large:8.1f} {growth:7.2f}", flush=True)
+            print(f"{name:30} {sizes[1] / (1 << 20) / large:8.1f} {growth:7.2f}", flush=True)
     return 1 if bad else 0
 
 
