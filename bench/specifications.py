@@ -214,7 +214,7 @@ def least_times(program, specifications, paths):
     adds to a time, so the least is the nearest. Each run names the stream by a longer path, since it lies with the length of what
     the program keeps first whether the C library gives its heap back to the system behind each item, and takes it anew."""
     times = [dict.fromkeys(specifications, float("inf")) for _ in paths]
-    for run in range(2 * RUNS):
+    for run in range(4 * RUNS):
         for path, found in zip(paths, times):
             for name, specification in specifications.items():
                 taken, _ = spent([program, "validate", specification, longer(path, 8 * run)])
