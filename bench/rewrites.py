@@ -13,8 +13,9 @@ they and the sizes take turns, and the best processor time of each counts. The c
 
 N is the number of pairs of the smaller maps, 50,000 if left out. The streams are made in bench/data. The status is 1 where
 a ratio is above 1.3 on maps whose keys rise, or above 2.5 on maps whose pairs come in no order; where a growth is above
-2.2 or, where pairs are sorted, which takes n log n and more where they are more than the processor's caches hold, above 2.6;
-or where an item of 4 MB in 250 maps, each the first of two keys of the next, or each a value of the next, takes more than 5 s.
+2.2; or where an item of 4 MB in 250 maps, each the first of two keys of the next, or each a value of the next, takes more
+than 5 s. Where one of these is out of bounds the streams are read again, and the least of all times counts, since a processor
+may be slow for seconds.
 """
 import argparse
 import os
@@ -26,8 +27,8 @@ import sys
 from streams import DATA, MIB, encoded, head
 
 RUNS = 5
-MOST_RISING, MOST_SHUFFLED, MOST_SECONDS = 1.3, 2.5, 5
-MOST_GROWTH_RISING, MOST_GROWTH_SHUFFLED = 2.2, 2.6
+MOST_ROUNDS = 5
+MOST_RISING, MOST_SHUFFLED, MOST_GROWTH, MOST_SECONDS = 1.3, 2.5, 2.2, 5
 DEPTH, LONG = 250, 4_000_000
 
 
@@ -103,16 +104,20 @@ def main():
         for is_rising in (True, False):
             title = f"{name}, {'rising' if is_rising else 'in no order'}"
             paths = [path_of(f"{make.__name__}-{is_rising}-{turn}", make(given.pairs * turn, is_rising)) for turn in (1, 2)]
-            runs = [[(seconds(plain, path), seconds(ordered, path)) for path in paths] for _ in range(RUNS)]
-            best = [tuple(min(run[size][it] for run in runs) for it in (0, 1)) for size in (0, 1)]
-            growth = best[1][1] / best[0][1]
+            runs, most = [], MOST_RISING if is_rising else MOST_SHUFFLED
+            for _ in range(MOST_ROUNDS):
+                runs += [[(seconds(plain, path), seconds(ordered, path)) for path in paths] for _ in range(RUNS)]
+                best = [tuple(min(run[size][it] for run in runs) for it in (0, 1)) for size in (0, 1)]
+                growth = best[1][1] / best[0][1]
+                if growth <= MOST_GROWTH and best[1][1] <= most * best[1][0]:
+                    break
             for size, (one, other) in enumerate(best):
                 mib = os.path.getsize(paths[size]) / MIB
                 print(f"{title if size == 0 else '':32}{mib:7.1f}{mib / one:15.1f}{mib / other:15.1f}{other / one:8.2f}"
                       + (f"{growth:8.2f}" if size else ""), flush=True)
-            if best[1][1] / best[1][0] > (MOST_RISING if is_rising else MOST_SHUFFLED):
+            if best[1][1] / best[1][0] > most:
                 bad.append(f"the ratio for {title}")
-            if growth > (MOST_GROWTH_RISING if is_rising else MOST_GROWTH_SHUFFLED):
+            if growth > MOST_GROWTH:
                 bad.append(f"the growth for {title}")
     for title, make in (("4 MB in 250 keys", deep_keys), ("4 MB in 250 values", deep_values)):
         taken = seconds(ordered, path_of(make.__name__, make()))
