@@ -204,7 +204,7 @@ map_inside d count b at start place end next old new s h =
     record {
       value = pairs ps;
       there = h;
-      valid = λ i r. after_valid [] ps t.apart t.valid r.0 r.2;
+      valid = λ i r. after_valid [] ps s.apart t.valid r.0 r.2;
       below = pairs_places ps;
       all = refl;
       counted = omega (arith, t.counted, pairs_places_counted ps);

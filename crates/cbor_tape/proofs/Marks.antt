@@ -13,7 +13,7 @@ use Rattle.cbor_data.proofs.Lemmas.{one_form}
 use Rattle.read_items.specs.Whole.Parts.{IsArgumentAt, IsItemAt}
 use Rattle.read_items.proofs.OfWhole.Lemmas.{content_len, string_lies}
 use Rattle.cbor_tape.specs.declared.entry.Entry.{Entry}
-use Rattle.cbor_tape.specs.Keys.{mark, key_marks, AreOther, ArePairsOn, IsKeyAt, IsWithKey}
+use Rattle.cbor_tape.specs.Keys.{mark, key_marks, AreOther, ArePairsOn, IsAbove, IsKeyAt, IsWithKey}
 
 -- keys that are the same have one mark
 pub same_mark : (k l : Value) → IsSame k l → mark k ≡ mark l
@@ -36,7 +36,7 @@ spelled_mark b at m x spelling after k s is =
 pub item_mark : (d : ℕ) (b : List ℕ) (at end : ℕ) (m : List ℕ) (x : Value) → IsKeyAt b at m → IsItemAt d b at x end → mark x ≡ m
 item_mark d b at end m x k h = spelled_mark b at m x (flat h.written) (drop end b) k (record { written = h.written; ok = h.ok; text = h.text; is = refl; meant = h.meant }) h.is
 
-one_mark : (b : List ℕ) (at : ℕ) (m n : List ℕ) → IsKeyAt b at m → IsKeyAt b at n → m ≡ n
+pub one_mark : (b : List ℕ) (at : ℕ) (m n : List ℕ) → IsKeyAt b at m → IsKeyAt b at n → m ≡ n
 one_mark b at m n k l =
     let same = one_form k.written l.written k.after l.after k.ok l.ok (sym k.is ∙ l.is) in
     sym k.marked ∙ (ap (λ f. mark (meaning f)) same.0 ∙ l.marked)
@@ -85,28 +85,37 @@ abbrev IsUpTo : List ℕ → List ℕ → Type 0
 IsUpTo m n = is_gt (slice_cmp nat_cmp n m) ≡ false
 
 -- the first key
-pub with_first : (b : List ℕ) (t : List Entry) (first last at : ℕ) (m : List ℕ) → IsKeyAt b at m → IsWithKey b t first last None at at
-with_first b t first last at m k = record {
+pub first_above : (b : List ℕ) (at : ℕ) (m : List ℕ) → IsKeyAt b at m → IsAbove b None at
+first_above b at m k = record {
   own = m;
   key = k;
-  new = λ ps on none. subst (AreOther m) (sym none) tt;
+  other = λ ms none. subst (AreOther m) (sym none) tt;
   highest = λ ms none. (m, k, subst (λ ns. AllByRecursion (IsUpTo m) (ns ++ m ∷ [])) (sym none) (ap is_gt (tied_itself nat_list_cmp_total m), tt));
 }
 
+pub with_first : (b : List ℕ) (t : List Entry) (first last at : ℕ) (m : List ℕ) → IsKeyAt b at m → IsWithKey b t first last None at at
+unfolding first_above
+with_first b t first last at m k = record {
+  own = m;
+  key = k;
+  new = λ ps on none. (first_above b at m k).other (key_marks ps) none;
+  highest = (first_above b at m k).highest;
+}
+
 -- a key above the highest
-pub with_higher : (b : List ℕ) (t : List Entry) (first last before at : ℕ) (top m : List ℕ) → IsKeyAt b before top → IsKeyAt b at m → slice_cmp nat_cmp top m ≡ Less → IsWithKey b t first last (Some before) at at
-with_higher b t first last before at top m h k less =
+pub higher_above : (b : List ℕ) (before at : ℕ) (top m : List ℕ) → IsKeyAt b before top → IsKeyAt b at m → slice_cmp nat_cmp top m ≡ Less → IsAbove b (Some before) at
+higher_above b before at top m h k less =
     let turned : slice_cmp nat_cmp m top ≡ Greater = nat_list_cmp_total.antisymm m top ∙ ap ordering_reverse less in
     record {
       own = m;
       key = k;
-      new = λ ps on high.
+      other = λ ms high.
           let same : high.0 ≡ top = one_mark b before high.0 top high.1 h in
-          all_map (IsUpTo top) (λ n. n ≡ m → ⊥) (key_marks ps) (λ n up is.
+          all_map (IsUpTo top) (λ n. n ≡ m → ⊥) ms (λ n up is.
           let below : is_gt (slice_cmp nat_cmp m top) ≡ false = subst (λ r. is_gt (slice_cmp nat_cmp r top) ≡ false) is up in
           let above : is_gt (slice_cmp nat_cmp m top) ≡ true = ap is_gt turned in
           let no : true ≡ false = sym above ∙ below in cc)
-          (subst (λ r. AllByRecursion (IsUpTo r) (key_marks ps)) same high.2);
+          (subst (λ r. AllByRecursion (IsUpTo r) ms) same high.2);
       highest = λ ms high.
           let same : high.0 ≡ top = one_mark b before high.0 top high.1 h in (
             m,
@@ -116,6 +125,12 @@ with_higher b t first last before at top m h k less =
                 (ap is_gt (tied_itself nat_list_cmp_total m)),
           );
     }
+
+pub with_higher : (b : List ℕ) (t : List Entry) (first last before at : ℕ) (top m : List ℕ) → IsKeyAt b before top → IsKeyAt b at m → slice_cmp nat_cmp top m ≡ Less → IsWithKey b t first last (Some before) at at
+unfolding higher_above
+with_higher b t first last before at top m h k less =
+    let above = higher_above b before at top m h k less in
+    record { own = m; key = k; new = λ ps on high. above.other (key_marks ps) high; highest = above.highest }
 
 -- another key that is none of them
 pub with_other : (b : List ℕ) (t : List Entry) (first last before at : ℕ) (top m : List ℕ) → IsKeyAt b before top → IsKeyAt b at m → slice_cmp nat_cmp top m ≡ Greater → ((ps : Pairs) → ArePairsOn b t first last ps → AreOther m (key_marks ps)) → IsWithKey b t first last (Some before) at before

@@ -7,7 +7,7 @@ use Rattle.std.specs.declared.cmp.Ordering.TheVariants.{Equal}
 use Rattle.cbor_data.specs.Value.{Value, Pairs, no_pairs, pair, places, pairs_places}
 use Rattle.cbor_tape.specs.declared.entry.Entry.{Entry}
 use Rattle.cbor_tape.specs.Tape.{IsEntryOf, AreEntriesOf}
-use Rattle.cbor_tape.specs.Keys.{mark, key_marks, AreOther, ArePairsOn, IsKeyAt, IsNext}
+use Rattle.cbor_tape.specs.Keys.{mark, key_marks, AreOther, ArePairsOn, IsKeyAt, IsKeyOn, IsNext}
 use Rattle.cbor_tape.proofs.Entries.{first_place, places_counted}
 use Rattle.cbor_tape.proofs.Marks.{differing, spelled_mark}
 
@@ -43,23 +43,29 @@ item_on b t place last x others d before h =
           (subst (λ fs. AreEntriesOf b (place + length (places x)) others fs) (drop-drop (length (places x)) place (take last t)) (entries-drop b place (places x) others es h));
     }
 
--- a pair whose key has another mark, and the place after it
-pub next_pair : (b : List ℕ) (t : List Entry) (place last : ℕ) (m n : List ℕ) (d : Entry) → place < last → (get_or t place d).next < last → IsKeyAt b (get_or t place d).head n → (slice_cmp nat_cmp m n ≡ Equal → ⊥) → IsNext b t place last m (get_or t (get_or t place d).next d).next
-next_pair b t place last m n d before inside k apart key v ps h =
+-- the key of a pair, and the place after it
+pub key_there : (b : List ℕ) (t : List Entry) (place last : ℕ) (m : List ℕ) (d : Entry) → place < last → (get_or t place d).next < last → IsKeyAt b (get_or t place d).head m → IsKeyOn b t place last m (get_or t place d).head (get_or t (get_or t place d).next d).next
+key_there b t place last m d before inside k key v ps h =
     let e = get_or t place d in
     let key_on = item_on b t place last key (places v ++ pairs_places ps) d before h in
     let value_on = item_on b t e.next last v (pairs_places ps) d inside key_on.there in
-    let marked : mark key ≡ n = spelled_mark b e.head n key key_on.here.spelling key_on.here.after k key_on.here.spells key_on.here.is in
-    (λ same. differing m n apart (sym marked ∙ same), value_on.there)
+    let marked : mark key ≡ m = spelled_mark b e.head m key key_on.here.spelling key_on.here.after k key_on.here.spells key_on.here.is in
+    (marked, k, value_on.there)
+
+-- a pair whose key has another mark, and the place after it
+pub next_pair : (b : List ℕ) (t : List Entry) (place last : ℕ) (m n : List ℕ) (head next : ℕ) → IsKeyOn b t place last n head next → (slice_cmp nat_cmp m n ≡ Equal → ⊥) → IsNext b t place last m next
+next_pair b t place last m n head next on apart key v ps h =
+    let w = on key v ps h in
+    (λ same. differing m n apart (sym w.0 ∙ same), w.2)
 
 -- if what is left has other marks, all have
 abbrev pub AreOtherIf : List ℕ → List Entry → ℕ → ℕ → ℕ → List ℕ → Type 0
 AreOtherIf b t first place last m = (ps : Pairs) → ArePairsOn b t first last ps → (qs : Pairs) × ArePairsOn b t place last qs × (AreOther m (key_marks qs) → AreOther m (key_marks ps))
 
 -- no pair is left where the places end
-none_left : (b : List ℕ) (t : List Entry) (place last : ℕ) (m : List ℕ) (qs : Pairs) → last ≤ place → ArePairsOn b t place last qs → AreOther m (key_marks qs)
-none_left b t place last m no_pairs end on = tt
-none_left b t place last m (pair k v qs) end on =
+pub no_marks : (b : List ℕ) (t : List Entry) (place last : ℕ) (qs : Pairs) → last ≤ place → ArePairsOn b t place last qs → key_marks qs ≡ []
+no_marks b t place last no_pairs end on = refl
+no_marks b t place last (pair k v qs) end on =
     let none : drop place (take last t) ≡ [] = drop_all place (take last t) (omega (arith, length-take last t)) in
     let f = first_place k in
     let held : AreEntriesOf b place (k ∷ (f.0 ++ (places v ++ pairs_places qs))) [] = subst (λ xs. AreEntriesOf b place (xs ++ (places v ++ pairs_places qs)) []) f.1 (subst (AreEntriesOf b place (places k ++ (places v ++ pairs_places qs))) none on) in
@@ -68,10 +74,10 @@ none_left b t place last m (pair k v qs) end on =
 pub all_other : (b : List ℕ) (t : List Entry) (first place last : ℕ) (m : List ℕ) → AreOtherIf b t first place last m → last ≤ place → (ps : Pairs) → ArePairsOn b t first last ps → AreOther m (key_marks ps)
 all_other b t first place last m h end ps on =
     let s = h ps on in
-    s.2 (none_left b t place last m s.0 end s.1)
+    s.2 (subst (AreOther m) (sym (no_marks b t place last s.0 end s.1)) tt)
 
 -- a pair is left where they do not
-some_left : (b : List ℕ) (t : List Entry) (place last : ℕ) (es : List Entry) (qs : Pairs) → es ≡ drop place (take last t) → 0 < length es → ArePairsOn b t place last qs → qs ≡ no_pairs → ⊥
+pub some_left : (b : List ℕ) (t : List Entry) (place last : ℕ) (es : List Entry) (qs : Pairs) → es ≡ drop place (take last t) → 0 < length es → ArePairsOn b t place last qs → qs ≡ no_pairs → ⊥
 some_left b t place last [] qs is some on none = omega arith
 some_left b t place last (e ∷ es) qs is some on none =
     subst (AreEntriesOf b place []) (sym is) (subst (ArePairsOn b t place last) none on)

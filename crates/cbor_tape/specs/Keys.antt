@@ -1,13 +1,16 @@
 -- Keys of maps, by what tells them apart.
-use Rattle.std.specs.Prelude.{◌≡◌, ℕ, List, [], ◌∷◌, ◌++◌, length, take, drop, Option, Some, None, false}
+use Rattle.std.specs.Prelude.{◌≡◌, ℕ, suc, List, [], ◌∷◌, ◌++◌, length, take, drop, Option, Some, None, false}
 use Rattle.std.specs.Cmp.Lexicographic.{slice_cmp}
 use Rattle.std.specs.List.{AllByRecursion}
 use Rattle.std.specs.Ordering.{is_gt, nat_cmp}
 use Rattle.cbor_data.specs.Value.{Value, uint, nint, bytes, text, Pairs, no_pairs, pair, pairs_places}
 use Rattle.cbor_data.specs.Forms.{Form, IsOk, flat, meaning}
+use Rattle.item_nodes.specs.Apart.{AreKeysApart}
 use Rattle.cbor_tape.specs.Tape.{AreEntriesOf}
 use Rattle.cbor_tape.specs.declared.entry.Entry.{Entry}
 use Rattle.cbor_tape.specs.declared.keys.Key.{Key}
+use Rattle.cbor_tape.specs.declared.keys.Keys.{Keys}
+use Rattle.cbor_tape.specs.declared.keys.Keys.TheVariants as V
 
 -- of an integer or a string its major type, the argument of its head, and the string's bytes
 abbrev pub mark : Value → List ℕ
@@ -52,6 +55,51 @@ pub record IsWithKey (b : List ℕ) (t : List Entry) (first last : ℕ) (before 
   pub key : IsKeyAt b at own
   pub new : (ps : Pairs) → ArePairsOn b t first last ps → IsHighest b before (key_marks ps) → AreOther own (key_marks ps)
   pub highest : (ms : List (List ℕ)) → IsHighest b before ms → IsHighest b (Some after) (ms ++ own ∷ [])
+
+-- what is known of these keys
+abbrev pub IsKnown : List ℕ → Keys → Pairs → Type 0
+IsKnown b (V.Differ highest) ps = AreKeysApart [] ps × IsHighest b highest (key_marks ps)
+IsKnown b V.Untold ps = Unit {0}
+
+-- what is known of them with the key at `at`
+abbrev pub IsKnownWith : List ℕ → List Entry → ℕ → ℕ → Keys → ℕ → Keys → Type 0
+IsKnownWith b t first last (V.Differ before) at (V.Differ (Some after)) = IsWithKey b t first last before at after
+IsKnownWith b t first last known at V.Untold = Unit {0}
+IsKnownWith b t first last _ at _ = ⊥
+
+-- no mark is there twice
+abbrev pub AreApart : List (List ℕ) → Type 0
+AreApart [] = Unit {0}
+AreApart (m ∷ ms) = AreOther m ms × AreApart ms
+
+-- the key at this place has this mark and begins at `head`, and the next pair is at `next`
+abbrev pub IsKeyOn : List ℕ → List Entry → ℕ → ℕ → List ℕ → ℕ → ℕ → Type 0
+IsKeyOn b t place last m head next = (k v : Value) (ps : Pairs) → ArePairsOn b t place last (pair k v ps) → (mark k ≡ m) × IsKeyAt b head m × ArePairsOn b t next last ps
+
+-- keys with these marks, one by one, by their offsets
+abbrev pub AreKeys : List ℕ → List (List ℕ) → List Entry → Type 0
+AreKeys b [] [] = Unit {0}
+AreKeys b (m ∷ ms) (e ∷ es) = IsKeyAt b e.head m × AreKeys b ms es
+AreKeys b _ _ = ⊥
+
+-- the same, with numbers from this one on
+abbrev pub AreListed : List ℕ → ℕ → List (List ℕ) → List Entry → Type 0
+AreListed b i [] [] = Unit {0}
+AreListed b i (m ∷ ms) (e ∷ es) = IsKeyAt b e.head m × (e.next ≡ i) × AreListed b (suc i) ms es
+AreListed b i _ _ = ⊥
+
+-- keys that all differ
+pub record AreInOrder (b : List ℕ) (es : List Entry) : Type 0 where
+  pub marks : List (List ℕ)
+  pub keys : AreKeys b marks es
+  pub apart : AreApart marks
+
+-- the key at `at` is above those the highest of which is at `top`
+pub record IsAbove (b : List ℕ) (top : Option ℕ) (at : ℕ) : Type 0 where
+  pub own : List ℕ
+  pub key : IsKeyAt b at own
+  pub other : (ms : List (List ℕ)) → IsHighest b top ms → AreOther own ms
+  pub highest : (ms : List (List ℕ)) → IsHighest b top ms → IsHighest b (Some at) (ms ++ own ∷ [])
 
 -- the key at this place has another mark, and the next pair is at `next`
 abbrev pub IsNext : List ℕ → List Entry → ℕ → ℕ → List ℕ → ℕ → Type 0

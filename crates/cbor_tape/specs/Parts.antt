@@ -43,11 +43,10 @@ pub record AreTapedAt (depth : ℕ) (b : List ℕ) (start place : ℕ) (old new 
   pub stand : AreEntriesOf b place (values_places (meanings fs)) entries
   pub tape : take next new ≡ take place old ++ entries
 
--- the same of pairs; no key is the same as another
+-- the same of pairs
 pub record ArePairsTapedAt (depth : ℕ) (b : List ℕ) (start place : ℕ) (old new : List Entry) (ps : PairForms) (end next : ℕ) : Type 0 where
   pub there : ArePairsAt depth b start ps end
   pub valid : ArePartsValid (pair_meanings ps)
-  pub apart : AreKeysApart [] (pair_meanings ps)
   pub counted : next ≡ place + pairs_place_count (pair_meanings ps)
   pub entries : List Entry
   pub stand : AreEntriesOf b place (pairs_places (pair_meanings ps)) entries
@@ -62,12 +61,13 @@ pub record AreMembersTapedAt (depth : ℕ) (count : Option ℕ) (b : List ℕ) (
   pub ends : IsEnd count (forms_len written) b stop
   pub placed : end ≡ stop + end_length count
 
--- the same of the pairs of a map
+-- the same of the pairs of a map; no key is the same as another
 pub record AreMapPairsTapedAt (depth : ℕ) (count : Option ℕ) (b : List ℕ) (start place : ℕ) (old new : List Entry) (end next : ℕ) : Type 0 where
   pub written : PairForms
   pub stop : ℕ
   pub some : 0 < depth
   pub there : ArePairsTapedAt (depth - 1) b start place old new written stop next
+  pub apart : AreKeysApart [] (pair_meanings written)
   pub ends : IsEnd count (pair_forms_len written) b stop
   pub placed : end ≡ stop + end_length count
 

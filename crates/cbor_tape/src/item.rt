@@ -4,8 +4,9 @@ ghost use Rattle.cbor_tape.specs.Parts.{AreMapPairsTapedAt, AreMembersTapedAt, I
 ghost use Rattle.cbor_tape.specs.Tape.{IsWholeTape};
 
 use crate::entry::Entry;
-use crate::keys::highest_with;
+use crate::keys::{Keys, with_key};
 use crate::leaf::{leaf_end, string_to_break_end};
+use crate::order::all_differ;
 use read_items::whole::{argument_at, end_len, is_end};
 
 // An item with more containers round a place of it is left to a reader that keeps what is open in a list: each container
@@ -30,11 +31,12 @@ struct Extent {
 ///
 /// `None` says nothing of the bytes, and then the tape says nothing: no item may be there, or none that is all there, or one
 /// with a text that is not UTF-8, with a repeated key, too deep, or more than 128 containers deep; or a map has a key that is no
-/// integer and no string in one part, or more than eight keys and after these one that is not above all before it, in the order
-/// of deterministic bytes (RFC 8949 section 4.2.1).
+/// integer and no string in one part, or more keys than `tape` is longer than `bytes`, more than eight, of which after these eight
+/// one is not above all before it, in the order of deterministic bytes (RFC 8949 section 4.2.1). So where the tape is half as long
+/// again as the bytes, each map of integers and strings is told.
 ///
 /// No memory is asked for. Calls are as deep as the item. A byte is looked at once, and a key's also where it is compared: with
-/// the highest key before it, and with eight others at most.
+/// the highest key before it, with eight others at most, and where that does not tell, once the map is read, as a sort does.
 pub fn whole_tape(bytes: &[u8], depth: u32, tape: &mut [Entry]) -> Option<usize>
     requires room { length bytes.now ≤ length tape.old }
     requires short { length bytes.now < 2 ^ 32 }
@@ -189,15 +191,18 @@ fn pairs(
     let mut end = start;
     let mut next = place;
     let mut read = 0;
-    let mut highest = None;
+    let mut keys = Keys::Differ(None);
     while !is_end(bytes, end, count, read) {
-        let above = highest_with(bytes, tape, place, next, highest, end)?;
+        let known = with_key(bytes, tape, place, next, keys, end);
         let after_key = item_at(bytes, end, depth - 1, tape, next)?;
         let value = tape[next].next as usize;
         end = item_at(bytes, after_key, depth - 1, tape, value)?;
         next = tape[value].next as usize;
-        highest = Some(above);
+        keys = known;
         read += 1;
+    }
+    if !all_differ(bytes, tape, place, next, keys) {
+        return None;
     }
     Some(Extent {
         end: end + end_len(count),

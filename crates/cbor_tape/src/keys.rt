@@ -3,7 +3,7 @@ ghost use Rattle.std.specs.Prelude.{◌≡◌, ◌<◌, ◌≤◌, length, IfSom
 ghost use Rattle.std.specs.Cmp.Lexicographic.{slice_cmp};
 ghost use Rattle.std.specs.Ordering.{nat_cmp};
 ghost use Rattle.cbor_data.specs.Value.{Pairs};
-ghost use Rattle.cbor_tape.specs.Keys.{key_marks, mark_of, AreOther, ArePairsOn, IsKeyAt, IsNext, IsWithKey};
+ghost use Rattle.cbor_tape.specs.Keys.{key_marks, mark_of, AreOther, ArePairsOn, IsKeyAt, IsKeyOn, IsKnownWith, IsNext, IsWithKey};
 
 use crate::entry::Entry;
 use read_items::whole::{are_there, argument_at};
@@ -17,17 +17,34 @@ const STRINGS_BELOW: u8 = 0x80;
 
 const INTEGERS_BELOW: u8 = 0x40;
 
-// What tells an integer or a string in one part from other keys: its major type, the argument of its head, and the bytes of a
-// string.
+/// What tells an integer or a string in one part from other keys: its major type, the argument of its head, and the bytes of a
+/// string.
 #[derive(Clone, Copy)]
-struct Key<'a> {
+pub struct Key<'a> {
     major: u8,
     argument: u64,
     string: &'a [u8],
 }
 
-// The key at `at`, if it is an integer or a string in one part and its bytes are all there.
-fn key_at(bytes: &[u8], at: usize) -> Option<Key<'_>>
+// A key on the tape: the offset of its first byte, and the place after its pair.
+#[derive(Clone, Copy)]
+pub struct KeyOn<'a> {
+    pub key: Key<'a>,
+    pub head: u32,
+    pub next: usize,
+}
+
+/// What is known of the keys of a map so far.
+#[derive(Clone, Copy)]
+pub enum Keys {
+    /// They all differ, and the highest is at this offset, if there is one.
+    Differ(Option<usize>),
+    /// Nothing, so they are put in order when all are there.
+    Untold,
+}
+
+/// The key at `at`, if it is an integer or a string in one part and its bytes are all there.
+pub fn key_at(bytes: &[u8], at: usize) -> Option<Key<'_>>
     ensures { IfSome result (λ key. IsKeyAt bytes.now at (mark_of key)) }
 {
     if at >= bytes.len() || bytes[at] >= STRINGS_BELOW {
@@ -56,8 +73,8 @@ fn key_at(bytes: &[u8], at: usize) -> Option<Key<'_>>
     })
 }
 
-// Keys in the order of their deterministic bytes (RFC 8949 section 4.2.1).
-fn compare(key: &Key, other: &Key) -> Ordering
+/// Keys in the order of their deterministic bytes (RFC 8949 section 4.2.1).
+pub fn compare(key: &Key, other: &Key) -> Ordering
     ensures { result ≡ slice_cmp nat_cmp (mark_of key.now) (mark_of other.now) }
 {
     let by_head = key
@@ -70,11 +87,32 @@ fn compare(key: &Key, other: &Key) -> Ordering
     }
 }
 
-/// The highest of some keys and the key at `at`, if that is surely the same as none of them. Their pairs are on the tape from the
-/// place `first` up to the place `last`, and the highest of them is `highest`.
-///
-/// A key above all of them is the same as none. Another one is compared with each, where they are eight at most.
-pub fn highest_with(
+/// What is known of some keys and the key at `at`. Their pairs are on the tape from the place `first` up to the place `last`.
+pub fn with_key(
+    bytes: &[u8],
+    tape: &[Entry],
+    first: usize,
+    last: usize,
+    keys: Keys,
+    at: usize,
+) -> Keys
+    requires { last ≤ length tape.now }
+    ensures { IsKnownWith bytes.now tape.now first last keys at result }
+{
+    match keys {
+        Keys::Differ(highest) => match highest_with(bytes, tape, first, last, highest, at) {
+            Some(above) => Keys::Differ(Some(above)),
+            None => Keys::Untold,
+        },
+        Keys::Untold => Keys::Untold,
+    }
+}
+
+// The highest of some keys and the key at `at`, if that is surely the same as none of them. Their pairs are on the tape from the
+// place `first` up to the place `last`, and the highest of them is `highest`.
+//
+// A key above all of them is the same as none. Another one is compared with each, where they are eight at most.
+fn highest_with(
     bytes: &[u8],
     tape: &[Entry],
     first: usize,
@@ -122,14 +160,28 @@ fn after_other(bytes: &[u8], tape: &[Entry], place: usize, last: usize, key: &Ke
     requires last { last ≤ length tape.now }
     ensures { IfSome result (λ next. IsNext bytes.now tape.now place last (mark_of key.now) next) }
 {
+    let other = key_on(bytes, tape, place, last)?;
+    match compare(key, &other.key) {
+        Ordering::Equal => None,
+        _ => Some(other.next),
+    }
+}
+
+/// The key of the pair at `place`, if it is an integer or a string in one part.
+pub fn key_on<'b>(bytes: &'b [u8], tape: &[Entry], place: usize, last: usize) -> Option<KeyOn<'b>>
+    requires place { place < last }
+    requires last { last ≤ length tape.now }
+    ensures { IfSome result (λ k. IsKeyOn bytes.now tape.now place last (mark_of k.key) k.head k.next) }
+{
     let entry = tape[place];
-    let other = key_at(bytes, entry.head as usize)?;
+    let key = key_at(bytes, entry.head as usize)?;
     let value = entry.next as usize;
     if value >= last {
         return None;
     }
-    match compare(key, &other) {
-        Ordering::Equal => None,
-        _ => Some(tape[value].next as usize),
-    }
+    Some(KeyOn {
+        key,
+        head: entry.head,
+        next: tape[value].next as usize,
+    })
 }

@@ -6,6 +6,7 @@ mod entry;
 mod item;
 mod keys;
 mod leaf;
+mod order;
 
 pub use crate::entry::Entry;
 pub use crate::item::whole_tape;

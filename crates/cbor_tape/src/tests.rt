@@ -16,6 +16,10 @@ const ARRAY: [(u32, u32); 8] = [
 
 const MAP: [(u32, u32); 7] = [(0, 7), (1, 2), (3, 3), (4, 4), (6, 7), (7, 6), (8, 7)];
 
+// A map of 31 keys, each lower than the one before it.
+const FALLING: &[u8] =
+    b"\xb8\x1f\x26\0\x25\0\x24\0\x23\0\x22\0\x21\0\x20\0\x17\0\x16\0\x15\0\x14\0\x13\0\x12\0\x11\0\x10\0\x0f\0\x0e\0\x0d\0\x0c\0\x0b\0\x0a\0\x09\0\x08\0\x07\0\x06\0\x05\0\x04\0\x03\0\x02\0\x01\0\0\0";
+
 // Whether the item at the front of the bytes ends here and has these entries. The tape has those of an item before.
 fn is_taped(bytes: &[u8], depth: u32, end: usize, entries: &[(u32, u32)]) -> bool {
     if bytes.len() > 64 || entries.len() > 64 {
@@ -88,21 +92,36 @@ fn keys_that_differ(rt: HostRuntime) {
             1
         )
     );
+    // keys that are put in order: integers and strings, of which the last is lower than nine others
+    assert!(rt;
+        !is_left(
+            b"\xaa\x09\0\x08\0\x07\0\x06\0\x05\0\x04\0\x03\0\x02\0\x01\0\0\0",
+            1
+        )
+    );
+    assert!(rt;
+        !is_left(
+            b"\xab\x61b\0\x61a\0\x41a\0\x20\0\x06\0\x05\0\x04\0\x03\0\x02\0\x01\0\0\0",
+            1
+        )
+    );
 }
 
 #[test]
 fn what_is_left(rt: HostRuntime) {
-    // keys that are the same, in other widths too, and one that is lower than nine others
+    // keys that are the same, in other widths too
     assert!(rt; is_left(b"\xa2\x01\x00\x01\x00", 1));
     assert!(rt; is_left(b"\xa2\x01\x00\x18\x01\x00", 1));
     assert!(rt; is_left(b"\xa3\x61a\x00\x20\x00\x78\x01a\x00", 1));
     assert!(rt; is_left(b"\x81\xbf\x41a\x00\x58\x01a\x00\xff", 2));
     assert!(rt;
         is_left(
-            b"\xaa\x09\0\x08\0\x07\0\x06\0\x05\0\x04\0\x03\0\x02\0\x01\0\0\0",
+            b"\xab\x09\0\x08\0\x07\0\x06\0\x05\0\x04\0\x03\0\x02\0\x01\0\0\0\x18\x05\0",
             1
         )
     );
+    // falling keys for which there is no room behind
+    assert!(rt; is_left(FALLING, 1));
     // what is cut, or no item, or no text
     assert!(rt; is_left(b"", 9));
     assert!(rt; is_left(b"\x18", 9));

@@ -1,4 +1,4 @@
-use Rattle.std.proofs.Common.{ℕ, ◌+◌, ◌-◌, Some, None, refl, arith}
+use Rattle.std.proofs.Common.{ℕ, ◌+◌, ◌-◌, Some, None, refl, sym, subst, arith}
 use Rattle.std.proofs.lemmas.Option.{IfSome_then}
 use Rattle.cbor_data.specs.Value.{array, pairs, tag}
 use Rattle.cbor_data.specs.Forms.{meanings, pair_meanings}
@@ -6,7 +6,7 @@ use Rattle.read_items.proofs.OfWhole.Lemmas.{array_item, map_item, tag_item, bro
 use Rattle.cbor_tape.specs.Parts.{AreMapPairsTapedAt, AreMembersTapedAt, IsContentTapedAt, IsTapedAt, next_at}
 use Rattle.cbor_tape.proofs.Entries.{array_there, map_there, tag_there, array_inside, map_inside, tag_inside, leaf_inside, over, inside_within, taped_moves}
 use Rattle.cbor_tape.proofs.Members.{none_read, one_more}
-use Rattle.cbor_tape.proofs.Pairs.{no_pairs_read, one_pair_more}
+use Rattle.cbor_tape.proofs.Pairs.{all_pairs, no_pairs_read, one_pair_more}
 use Rattle.cbor_tape.proofs.item.+taped.Goals as goal
 
 -- items
@@ -127,8 +127,8 @@ members-loop-tape-preserved t c =
 
 -- maps
 
-pub pairs-loop-highest-init : goal.pairs-loop-highest-init
-pairs-loop-highest-init t c = record {
+pub pairs-loop-tape-init : goal.pairs-loop-tape-init
+pairs-loop-tape-init t c = record {
   taped = no_pairs_read (c.args.depth - 1) c.args.bytes.now c.args.start c.args.place c.args.tape.now;
   behind = omega arith;
   slower = omega arith;
@@ -136,22 +136,22 @@ pairs-loop-highest-init t c = record {
   within = c.requires.within;
 }
 
-pub pairs-item_at-requires-in-loop-highest : goal.pairs-item_at-requires-in-loop-highest
-pairs-item_at-requires-in-loop-highest t c =
-    let l = c.loop-highest in
+pub pairs-item_at-requires-in-loop-tape : goal.pairs-item_at-requires-in-loop-tape
+pairs-item_at-requires-in-loop-tape t c =
+    let l = c.loop-tape in
     let turn = c.item_at.new.tape in
     let m = taped_moves (c.args.depth - 1) c.args.bytes.now l.end l.next c.in_ok-after_key.after_key (next_at turn l.next) l.tape turn c.in_ok-after_key.ensures in
     (omega (arith, m.on, m.within, l.invariant.behind), (omega arith, (omega arith, omega (arith, m.slower, l.invariant.slower))))
 
-pub pairs-loop-highest-preserved : goal.pairs-loop-highest-preserved
-pairs-loop-highest-preserved t c =
+pub pairs-loop-tape-preserved : goal.pairs-loop-tape-preserved
+pairs-loop-tape-preserved t c =
     let d : ℕ = c.args.depth - 1 in
     let b = c.args.bytes.now in
-    let l = c.loop-highest in
+    let l = c.loop-tape in
     let between = c.in_ok-after_key.after_key in
     let after = c.in_ok-end.end in
     let turn = c.item_at.new.tape in
-    let new = c.item_at-in-loop-highest.new.tape in
+    let new = c.item_at-in-loop-tape.new.tape in
     let beside = next_at turn l.next in
     let beyond = next_at new beside in
     let key : IsTapedAt d b l.end l.next l.tape turn between beside = c.in_ok-after_key.ensures in
@@ -159,9 +159,18 @@ pairs-loop-highest-preserved t c =
     let m = taped_moves d b l.end l.next between beside l.tape turn key in
     let n = taped_moves d b between beside after beyond turn new value in
     record {
-      taped = one_pair_more d b c.args.start c.args.place l.end between after l.next beside beyond l.read c.args.tape.now l.tape turn new l.highest c.in_ok-above.above (omega arith) l.invariant.taped c.in_ok-above.ensures key value;
+      taped = one_pair_more d b c.args.start c.args.place l.end between after l.next beside beyond l.read c.args.tape.now l.tape turn new l.keys c.with_key-known.result (omega arith) l.invariant.taped c.with_key-known.ensures key value;
       behind = omega (arith, m.on, n.on, l.invariant.behind);
       slower = omega (arith, m.slower, m.on, n.slower, n.on, l.invariant.slower);
       few = omega (arith, m.on, n.on, l.invariant.few);
       within = n.within;
     }
+
+pub pairs-returns : goal.pairs-returns
+pairs-returns t c =
+    let l = c.loop-tape in
+    let old = c.args.tape.now in
+    let new = c.all_differ.new.tape in
+    subst (λ (n : ℕ). AreMapPairsTapedAt c.args.depth c.args.count c.args.bytes.now c.args.start c.args.place old new (l.end + n) l.next) (sym c.end_len.ensures)
+    (all_pairs c.args.depth c.args.count c.args.bytes.now c.args.start c.args.place old l.tape new l.end l.next l.read l.keys (omega arith) (omega arith) (omega (arith, l.invariant.slower, l.invariant.within))
+    c.if-not-all_differ.ensures.front l.invariant.taped (c.loop-tape-test.ensures refl) (c.if-not-all_differ.ensures.apart refl))

@@ -35,14 +35,14 @@ invariant-members-loop-tape l = record {
 abbrev pub decreases-members-loop-tape : goal.decreases-members-loop-tape
 decreases-members-loop-tape l = length l.bytes - l.end
 
-abbrev pub invariant-pairs-loop-highest : goal.invariant-pairs-loop-highest
-invariant-pairs-loop-highest l = record {
-  taped : ArePairsRead (l.depth - 1) l.bytes l.start l.place l.fn.tape l.tape l.end l.next l.read l.highest;
+abbrev pub invariant-pairs-loop-tape : goal.invariant-pairs-loop-tape
+invariant-pairs-loop-tape l = record {
+  taped : ArePairsRead (l.depth - 1) l.bytes l.start l.place l.fn.tape l.tape l.end l.next l.read l.keys;
   behind : l.start ≤ l.end;
   slower : l.next ≤ l.end;
   few : l.read ≤ l.end;
   within : l.end ≤ length l.bytes;
 }
 
-abbrev pub decreases-pairs-loop-highest : goal.decreases-pairs-loop-highest
-decreases-pairs-loop-highest l = length l.bytes - l.end
+abbrev pub decreases-pairs-loop-tape : goal.decreases-pairs-loop-tape
+decreases-pairs-loop-tape l = length l.bytes - l.end

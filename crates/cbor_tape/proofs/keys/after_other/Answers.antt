@@ -5,5 +5,6 @@ use Rattle.cbor_tape.proofs.keys.after_other.Goals as goal
 
 pub returns-in_default : goal.returns-in_default
 returns-in_default c =
-    next_pair c.args.bytes.now c.args.tape.now c.args.place c.args.last (mark_of c.args.key.now) (mark_of c.in_ok-other.other) _ c.requires.place c.if-value-last.false c.in_ok-other.ensures
+    let other = c.in_ok-other.other in
+    next_pair c.args.bytes.now c.args.tape.now c.args.place c.args.last (mark_of c.args.key.now) (mark_of other.key) other.head other.next c.in_ok-other.ensures
     (λ same. c.in_default.not-Equal (c.compare.ensures ∙ same))
