@@ -5,8 +5,8 @@ use Rattle.cbor_data.specs.Value.{Value}
 use Rattle.cddl_token.specs.declared.Token.{Token}
 use Rattle.table_nodes.specs.declared.table.Table.{Table}
 use Rattle.type_links.specs.declared.link.Link.{Link}
-use Rattle.cddl_sources.specs.declared.place.Place.{Place}
-use Rattle.cddl_sources.specs.declared.sources.Sources.{Sources}
+use Rattle.source_places.specs.declared.place.Place.{Place}
+use Rattle.source_places.specs.declared.sources.Sources.{Sources}
 use Rattle.cddl_reasons.specs.declared.causes.Reason.{Reason}
 use Rattle.mismatch_words.specs.Lines.{with_line}
 use Rattle.mismatch_words.specs.Reasons.{line_text}

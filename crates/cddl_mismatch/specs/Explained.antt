@@ -19,10 +19,11 @@ use Rattle.table_nodes.specs.Language.{language_of}
 use Rattle.table_nodes.specs.declared.table.Table.{Table}
 use Rattle.type_links.specs.declared.link.Link.{Link}
 use Rattle.cddl_table.specs.Text.{IsTableOf}
-use Rattle.cddl_sources.specs.Places.{IsOfNoRule, IsPlace}
-use Rattle.cddl_sources.specs.Sources.{AreSources, AreSourcesOf}
-use Rattle.cddl_sources.specs.declared.place.Place.{Place}
-use Rattle.cddl_sources.specs.declared.sources.Sources.{Sources}
+use Rattle.source_places.specs.Places.{IsOfNoRule, IsPlace}
+use Rattle.source_places.specs.Sources.{AreSources}
+use Rattle.cddl_sources.specs.Compiled.{AreSourcesOf}
+use Rattle.source_places.specs.declared.place.Place.{Place}
+use Rattle.source_places.specs.declared.sources.Sources.{Sources}
 use Rattle.cddl_reasons.specs.Told.{AreReasons, HasNone, holder_view}
 use Rattle.cddl_reasons.specs.declared.causes.Reason.{Reason}
 use Rattle.cddl_reasons.specs.declared.causes.Reasons.{Reasons}

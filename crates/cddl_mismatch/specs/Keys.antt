@@ -5,8 +5,8 @@ use Rattle.cddl_meaning.specs.Forms as F
 use Rattle.cddl_meaning.specs.Forms.{Language}
 use Rattle.table_nodes.specs.declared.nodes.GroupId.{GroupId}
 use Rattle.table_nodes.specs.declared.nodes.TypeId.{TypeId}
-use Rattle.cddl_sources.specs.declared.place.Place.{Place}
-use Rattle.cddl_sources.specs.declared.span.Span.{Span}
+use Rattle.source_places.specs.declared.place.Place.{Place}
+use Rattle.source_pieces.specs.declared.span.Span.{Span}
 use Rattle.cddl_reasons.specs.declared.causes.Cause.{Cause}
 use Rattle.cddl_reasons.specs.declared.causes.Cause.TheVariants as C
 use Rattle.mismatch_words.specs.Values.{value_words}

@@ -3,8 +3,8 @@ use Rattle.std.specs.Prelude.{◌≡◌, ℕ, ◌≤◌, List, [], ◌∷◌, le
 use Rattle.std.specs.Str.Lossy.{utf8_lossy}
 use Rattle.text_position.specs.Positions.{IsAt}
 use Rattle.cddl_token.specs.declared.Token.{Token}
-use Rattle.cddl_sources.specs.declared.place.Place.{Place}
-use Rattle.cddl_sources.specs.declared.span.Span.{Span}
+use Rattle.source_places.specs.declared.place.Place.{Place}
+use Rattle.source_pieces.specs.declared.span.Span.{Span}
 use Rattle.mismatch_words.specs.Reasons.{line_text}
 use Rattle.mismatch_words.specs.Types.{type_words}
 use Rattle.mismatch_words.specs.declared.causes.Cause.{Cause}

@@ -2,7 +2,7 @@
 
 ghost use Rattle.std.specs.Prelude.{◌≡◌, ◌<◌, ◌++◌, ◌∷◌, [], List, IfOk, None, Some, length, map, option_map, slice_get, string_bytes};
 ghost use Rattle.cddl_reasons.specs.declared.causes.Reason.{Reason as AnyReason};
-ghost use Rattle.cddl_sources.specs.declared.sources.Sources.{Sources as AllSources};
+ghost use Rattle.source_places.specs.declared.sources.Sources.{Sources as AllSources};
 ghost use Rattle.table_nodes.specs.declared.table.Table.{Table as AllTable};
 ghost use Rattle.cddl_mismatch.specs.Causes.{chain_of};
 ghost use Rattle.cddl_mismatch.specs.Explained.{AreLines, AreTold, IsPlaceOf, IsPlaced, IsToldOf, IsToldOfRoot};

@@ -1,10 +1,1 @@
-pub mod Copies
-pub mod Filling
-pub mod Instances
-pub mod Origins
-pub mod Pieces
-pub mod Places
-pub mod Sources
-pub mod Spans
-pub mod States
-pub mod Walk
+pub mod Compiled

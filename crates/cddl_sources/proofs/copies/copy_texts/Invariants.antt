@@ -1,6 +1,0 @@
-use Rattle.std.proofs.Common.{◌≡◌, ℕ, ◌<◌, Some, slice_get}
-use Rattle.cddl_language.specs.Terms.{Text}
-use Rattle.cddl_sources.proofs.copies.copy_texts.Given as goal
-
-abbrev pub invariant-loop-index : goal.invariant-loop-index
-invariant-loop-index l = (n : ℕ) (x : Text) → n < l.index → slice_get l.terms.texts n ≡ Some x → slice_get l.copy.texts n ≡ Some x

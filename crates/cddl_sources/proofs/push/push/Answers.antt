@@ -1,5 +1,0 @@
-use Rattle.cddl_sources.proofs.Adding.{adds_one}
-use Rattle.cddl_sources.proofs.push.push.Goals as goal
-
-pub returns : goal.returns
-returns c = adds_one _ _ c.args.rule c.args.node c.in_ok-push.ensures.items

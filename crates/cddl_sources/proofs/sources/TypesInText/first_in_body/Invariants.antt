@@ -1,8 +1,0 @@
-use Rattle.std.proofs.Common.{◌≡◌, ℕ, ◌<◌, Some, slice_get}
-use Rattle.cddl_sources.specs.States.{IsInMarked, IsPlacedIn}
-use Rattle.cddl_sources.specs.declared.piece.PieceAt.{PieceAt}
-use Rattle.cddl_sources.proofs.sources.TypesInText.first_in_body.Given as goal
-
--- none of those so far is such an entry
-abbrev pub invariant-loop-piece : goal.invariant-loop-piece
-invariant-loop-piece l = (i : ℕ) (a : PieceAt) → i < l.piece-index → slice_get l.self.pieces.items i ≡ Some a → IsPlacedIn l.alternative l.place a.entry → IsInMarked l.self l.marked a → ⊥

@@ -1,6 +1,0 @@
-use Rattle.std.proofs.Common.{take}
-use Rattle.cddl_sources.specs.States.{IsLastIn}
-use Rattle.cddl_sources.proofs.sources.TypesInText.last_instance.Given as goal
-
-abbrev pub invariant-loop-link : goal.invariant-loop-link
-invariant-loop-link l = IsLastIn l.self (take l.link-index l.chain) l.last

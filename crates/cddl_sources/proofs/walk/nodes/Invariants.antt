@@ -1,5 +1,0 @@
-use Rattle.cddl_sources.proofs.Rules.{HasFirst}
-use Rattle.cddl_sources.proofs.walk.nodes.Given as goal
-
-abbrev pub invariant-loop-rule : goal.invariant-loop-rule
-invariant-loop-rule l = HasFirst l.node-items l.found.items l.rule

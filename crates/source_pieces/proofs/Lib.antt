@@ -1,0 +1,10 @@
+mod Adding
+mod Nodes
+mod Firsts
+mod Ending
+mod Listing
+mod Growing
+mod Closing
+mod FilledPieces
+mod Reading
+mod Placing

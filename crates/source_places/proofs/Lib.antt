@@ -1,0 +1,10 @@
+mod LastInstance
+mod Copying
+mod Calling
+mod Counting
+mod Told
+mod Naming
+mod Standing
+mod Telling
+mod Stepping
+mod Splicing

@@ -1,0 +1,8 @@
+use Rattle.std.proofs.Common.{◌≡◌, ℕ, ◌<◌, Some, slice_get}
+use Rattle.source_places.specs.States.{IsUnfilledOf}
+use Rattle.source_pieces.specs.declared.piece.PieceAt.{PieceAt}
+use Rattle.source_places.proofs.sources.TypesInText.first_unfilled.Given as goal
+
+-- none of those so far is such a value
+abbrev pub invariant-loop-piece : goal.invariant-loop-piece
+invariant-loop-piece l = (i : ℕ) (a : PieceAt) → i < l.piece-index → slice_get l.self.pieces.items i ≡ Some a → IsUnfilledOf l.self l.number l.found l.key a → ⊥
