@@ -307,8 +307,10 @@ class Trial:
         return (placed, beside) if placed or beside else (left[:1], [])
 
     def calls(self, edit, other):
-        """Whether the one edit's function calls the other's, which has another proof, as far as their names tell."""
-        return edit.function.group() != other.function.group() and other.function.name in edit.words
+        """Whether the one edit's function calls one of those that share the other's proof, which is another, as far as their
+        names tell."""
+        of_group = {it.name for it in self.functions if it.group() == other.function.group()}
+        return edit.function.group() != other.function.group() and not of_group.isdisjoint(edit.words)
 
     def try_over_bare(self, placed, beside, by_law, kept):
         """What one check says of each edit that it refuses, where the functions that have none have neither a body nor a proof,

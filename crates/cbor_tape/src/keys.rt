@@ -26,7 +26,7 @@ pub struct Key<'a> {
     string: &'a [u8],
 }
 
-// A key on the tape: the offset of its first byte, and the place after its pair.
+/// A key on the tape: the offset of its first byte, and the place after its pair.
 #[derive(Clone, Copy)]
 pub struct KeyOn<'a> {
     pub key: Key<'a>,
