@@ -2,7 +2,7 @@
 use Rattle.std.proofs.Common.{◌≡◌, ◌↔◌, ◌⊎◌, inl, inr, ℕ, ◌+◌, ◌<◌, ◌≤◌, List, [], ◌∷◌, length, get_or, Option, Some, slice_get, refl, sym, subst, arith}
 use Rattle.std.specs.List.{Contains}
 use Rattle.std.specs.List.Sorted.{IsStrictlyIncreasing}
-use Rattle.std.proofs.lemmas.Option.{slice_get-get_or, slice_get_read, slice_get_within}
+use Rattle.std.proofs.lemmas.Option.{slice_get_read, slice_get_within}
 use Rattle.lists.proofs.Lemmas.{at_head, before_or_not, contains_at, either, first_or_later, none_in, one_of, place_of}
 use Rattle.lists.specs.Least.{IsLeast}
 use Rattle.all_offsets.specs.Offsets.{AreOf, AreOffsets, Gains, IsAmong, IsAtPlace, IsSaid, IsThatOf}

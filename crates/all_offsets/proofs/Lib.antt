@@ -1,3 +1,4 @@
 mod Gathering
 pub mod Lemmas
 mod Lists
+mod Telling

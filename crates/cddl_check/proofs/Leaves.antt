@@ -1,13 +1,13 @@
 -- The leaves of a tree are the tokens that it is made of.
-use Rattle.std.proofs.Common.{◌≡◌, ℕ, zero, suc, ◌<◌, List, [], ◌∷◌, length, get_or, refl, sym, ap, subst, arith}
-use Rattle.std.specs.Prelude.{All, Contains}
+use Rattle.std.proofs.Common.{◌≡◌, ℕ, zero, suc, ◌<◌, List, [], ◌∷◌, length, get_or, refl, subst, arith}
+use Rattle.std.specs.Prelude.{Contains}
 use Rattle.std.proofs.lemmas.List.Elements.{All-contains}
 use Rattle.cddl_token.specs.declared.Token.{Token}
 use Rattle.cddl_token.specs.Answers.{IsAnswered, IsReadFrom}
-use Rattle.tree_nodes.specs.Syntax.Syntax.{Cddl, Lexeme, flat}
+use Rattle.tree_nodes.specs.Syntax.Syntax.{Cddl, Lexeme}
 use Rattle.tree_nodes.specs.Syntax.Answers.{IsTreeOf, lexeme, lexemes}
 use Rattle.cddl_language.specs.Literals.{AreTokens}
-use Rattle.cddl_check.specs.Text.{AreTokensOf, IsTreeOfText}
+use Rattle.cddl_check.specs.Text.{AreTokensOf}
 
 record IsLexemeOf (ts : List Token) (l : Lexeme) : Type 0 where
   token : Token

@@ -1,5 +1,5 @@
 -- The number of the root's name.
-use Rattle.std.proofs.Common.{◌≡◌, ◌≢◌, inl, inr, ℕ, Bool, true, false, if◌then◌else◌, List, [], ◌∷◌, ◌++◌, Option, Some, None, refl, sym, ap, subst, ◌∙◌, slice_get}
+use Rattle.std.proofs.Common.{◌≡◌, ℕ, Bool, true, false, if◌then◌else◌, List, [], ◌∷◌, ◌++◌, Option, Some, None, refl, sym, ap, subst, ◌∙◌, slice_get}
 use Rattle.std.specs.Cmp.Lexicographic.{same_text}
 use Rattle.tree_nodes.specs.Syntax.Syntax as S
 use Rattle.cddl_language.specs.Terms as L
@@ -9,7 +9,7 @@ use Rattle.cddl_language.specs.Environment.{definitions_of, has_equals, is_same,
 use Rattle.cddl_language.specs.Prelude.{prelude}
 use Rattle.cddl_language.specs.Faults as F
 use Rattle.cddl_language.specs.Faults.{HasNoRoot, Specification, definitions, no_rule, no_such, root_of, root_or, rules}
-use Rattle.cddl_language.specs.Reading.{definition_of, definitions_in, name_in}
+use Rattle.cddl_language.specs.Reading.{definitions_in, name_in}
 use Rattle.check_terms.specs.declared.definition.Definition.{Definition}
 use Rattle.check_terms.specs.Definitions.{AreDefinitions, no_definitions, further_definition}
 use Rattle.check_terms.specs.Table.{Table}

@@ -8,7 +8,7 @@ use Rattle.cddl_language.specs.Reach.{most_instances}
 use Rattle.cddl_language.specs.Reading.{name_at}
 use Rattle.cddl_language.specs.StandsFor.{AreInstances}
 use Rattle.tree_nodes.specs.declared.tree.Tree.{Tree}
-use Rattle.tree_nodes.specs.View.{token_of, view}
+use Rattle.tree_nodes.specs.View.{view}
 use Rattle.check_terms.specs.Definitions.{AreDefinitions}
 use Rattle.check_terms.specs.Table.{Table}
 use Rattle.check_names.specs.Environment.Names.{AreNames}
@@ -21,7 +21,7 @@ use Rattle.check_text.specs.Codes.{text_codes}
 use Rattle.check_text.specs.First.{IsFirst}
 use Rattle.check_instances.specs.Found.{AreFound}
 use Rattle.check_reached.specs.Asked.{AreAsked, AreEntriesAsked}
-use Rattle.check_reached.specs.Reached.{AreReachedSites}
+use Rattle.check_reached.specs.Reached.{AreReachedWords}
 use Rattle.check_instances.specs.Closed.Closed.{IsClosed}
 use Rattle.check_instances.specs.Openings.Openings.{AreOpenings}
 use Rattle.check_literals.specs.Literals.{AreLiterals}
@@ -54,18 +54,18 @@ pub record IsRight (s : Specification) (worth : Values) : Type 0 where
   pub no_fault : IsFirst (IsFaultAt s worth) text_codes None
   pub clear : IsClear s
 
--- The root, its instances in order, which are no more than may be, and the sites that it reaches.
-pub record IsRooted (s : Specification) (root : Text) (refs : List Ref) (tree : Tree) (x : Instanced) : Type 0 where
+-- The root, its instances in order, which are no more than may be, and the words at the sites that it reaches.
+pub record IsRooted (s : Specification) (root : Text) (refs : List Ref) (t : Table) (x : Instanced) : Type 0 where
   pub rooted : root_of s ≡ Some root
   pub instances : AreInstances (definitions s) root refs
   pub few : length refs ≤ most_instances
   pub no_more : IsLeast (HasTooManyInstances s root) None
-  pub reached : AreReachedSites (rules s) root (token_of tree) x.reached.items
+  pub reached : AreReachedWords (rules s) root t x.reached.items
 
 -- The same, and the survey, by the numbers of the table.
 pub record IsInstanced (s : Specification) (root : Text) (refs : List Ref) (t : Table) (tree : Tree) (v : Survey) (x : Instanced) : Type 0 where
   pub survey : IsSurvey t tree v
-  pub rooted : IsRooted s root refs tree x
+  pub rooted : IsRooted s root refs t x
   pub number : slice_get t.texts x.root ≡ Some root
   pub found : AreFound (definitions s) t x.instances.items refs
 
@@ -77,7 +77,7 @@ pub record IsNamed (s : Specification) (t : Table) (v : Survey) : Type 0 where
   pub kinds : AreKinds t.texts (definitions s) v.kinds
   pub starts : v.starts.items ≡ map name_at (rules s)
 
--- What is asked of at the sites that the root reaches, and the least of those where `~` opens wrongly.
+-- The checks left at the sites that the root reaches, and the least offset where `~` unwraps wrongly.
 pub record IsAsking (s : Specification) (root : Text) (t : Table) (x : Questions) : Type 0 where
   pub asked : AreAsked (rules s) root t x.asked.items
   pub entries : AreEntriesAsked (rules s) root t x.entries.items
@@ -124,7 +124,7 @@ pub record AreFlat (s : Specification) (root : Text) : Type 0 where
 -- All of this, for a text in which nothing is wrong.
 pub record IsReading (s : Specification) (worth : Values) (root : Text) (refs : List Ref) (t : Table) (tree : Tree) (x : Reading) : Type 0 where
   pub right : IsRight s worth
-  pub rooted : IsRooted s root refs tree x.instanced
+  pub rooted : IsRooted s root refs t x.instanced
   pub number : slice_get t.texts x.instanced.root ≡ Some root
   pub survey : IsSurvey t tree x.survey
   pub named : IsNamed s t x.survey

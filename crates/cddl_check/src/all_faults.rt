@@ -95,25 +95,20 @@ fn faults_in<'s>(
 {
     codes_are_in_order();
     let reading = read_tree(alloc, terms, tree, given)?;
-    let found = faults_of(alloc, terms, tree, &reading)?;
+    let found = faults_of(alloc, terms, &reading)?;
     Ok(found)
 }
 
 // The same of a reading.
-fn faults_of(
-    alloc: Global,
-    terms: &Terms<'_>,
-    tree: &Tree<'_>,
-    reading: &Reading<'_>,
-) -> Result<RootFaults, Stopped>
-    ensures found { IfOk result (λ x. (s : Specification) (worth : Values) (root : Text) (refs : List Ref) → s.tree ≡ view tree.now → AreTokens s.tree → AreRight s.tree worth → IsReading s worth root refs terms.now tree.now reading.now → AreFaults s worth x) }
+fn faults_of(alloc: Global, terms: &Terms<'_>, reading: &Reading) -> Result<RootFaults, Stopped>
+    ensures found { IfOk result (λ x. (s : Specification) (worth : Values) (tree : Trees) (root : Text) (refs : List Ref) → s.tree ≡ view tree → AreTokens s.tree → AreRight s.tree worth → IsReading s worth root refs terms.now tree reading.now → AreFaults s worth x) }
     ensures memory { IfErr result (λ e. e ≡ Why.Memory) }
 {
-    let not_unwrappable = unwrappings(alloc, terms, tree, reading)?;
+    let not_unwrappable = unwrappings(alloc, terms, reading)?;
     let order = order_of(alloc, terms, reading)?;
     let recursion = recursions(alloc, terms, reading, &order)?;
     let not_literal = literals_of(alloc, terms, reading)?;
-    let bad_range = ranges_of(alloc, terms, tree, reading)?;
+    let bad_range = ranges_of(alloc, terms, reading)?;
     let bad_controller = controllers_of(alloc, terms, reading)?;
     let maps = all_of_maps(alloc, terms, reading)?;
     Ok(RootFaults {
@@ -128,17 +123,16 @@ fn faults_of(
     })
 }
 
-// All offsets of what `~` cannot open, or `&` cannot choose from.
+// All offsets of what `~` cannot unwrap, or `&` cannot choose from.
 fn unwrappings(
     alloc: Global,
     terms: &Terms<'_>,
-    tree: &Tree<'_>,
-    reading: &Reading<'_>,
+    reading: &Reading,
 ) -> Result<Vec<usize>, AllocError>
-    ensures { IfOk result (λ v. (s : Specification) (worth : Values) (root : Text) (refs : List Ref) → s.tree ≡ view tree.now → IsReading s worth root refs terms.now tree.now reading.now → AreOffsets (HasNotUnwrappable s root) v.items) }
+    ensures { IfOk result (λ v. (s : Specification) (worth : Values) (tree : Trees) (root : Text) (refs : List Ref) → s.tree ≡ view tree → IsReading s worth root refs terms.now tree reading.now → AreOffsets (HasNotUnwrappable s root) v.items) }
 {
     let reached = &reading.instanced.reached;
-    let opens = all_not_unwrapped(alloc, terms, tree, &reading.survey, reached)?;
+    let opens = all_not_unwrapped(alloc, &reading.survey, reached)?;
     let meant = &reading.meant;
     let asked = &reading.questions.asked;
     let chooses = all_nothing_chosen(alloc, terms, &meant.closed, &meant.choosable, asked)?;
@@ -149,7 +143,7 @@ fn unwrappings(
 fn recursions(
     alloc: Global,
     terms: &Terms<'_>,
-    reading: &Reading<'_>,
+    reading: &Reading,
     order: &Order,
 ) -> Result<Vec<usize>, AllocError>
     ensures { IfOk result (λ v. (s : Specification) (worth : Values) (tree : Trees) (root : Text) (refs : List Ref) → IsReading s worth root refs terms.now tree reading.now → IsOrder (definitions s) root refs terms.now order.now → AreOffsets (HasRecursion s root) v.items) }
@@ -163,7 +157,7 @@ fn recursions(
 fn literals_of(
     alloc: Global,
     terms: &Terms<'_>,
-    reading: &Reading<'_>,
+    reading: &Reading,
 ) -> Result<Vec<usize>, AllocError>
     ensures { IfOk result (λ v. (s : Specification) (worth : Values) (tree : Trees) (root : Text) (refs : List Ref) → AreRight s.tree worth → IsReading s worth root refs terms.now tree reading.now → AreOffsets (HasNotLiteral s worth root) v.items) }
 {
@@ -172,25 +166,20 @@ fn literals_of(
 }
 
 // All offsets of a range or of an occurrence with bad ends.
-fn ranges_of(
-    alloc: Global,
-    terms: &Terms<'_>,
-    tree: &Tree<'_>,
-    reading: &Reading<'_>,
-) -> Result<Vec<usize>, AllocError>
-    ensures { IfOk result (λ v. (s : Specification) (worth : Values) (root : Text) (refs : List Ref) → s.tree ≡ view tree.now → AreTokens s.tree → AreRight s.tree worth → IsReading s worth root refs terms.now tree.now reading.now → AreOffsets (HasBadRange s worth root) v.items) }
+fn ranges_of(alloc: Global, terms: &Terms<'_>, reading: &Reading) -> Result<Vec<usize>, AllocError>
+    ensures { IfOk result (λ v. (s : Specification) (worth : Values) (tree : Trees) (root : Text) (refs : List Ref) → AreTokens s.tree → AreRight s.tree worth → IsReading s worth root refs terms.now tree reading.now → AreOffsets (HasBadRange s worth root) v.items) }
 {
     let meant = &reading.meant;
     let asked = &reading.questions.asked;
     let reached = &reading.instanced.reached;
-    all_bad_range(alloc, terms, tree, &meant.literals, asked, reached)
+    all_bad_range(alloc, terms, &meant.literals, asked, reached)
 }
 
 // All offsets of a controller that is not of the kind that its control asks for.
 fn controllers_of(
     alloc: Global,
     terms: &Terms<'_>,
-    reading: &Reading<'_>,
+    reading: &Reading,
 ) -> Result<Vec<usize>, AllocError>
     ensures { IfOk result (λ v. (s : Specification) (worth : Values) (tree : Trees) (root : Text) (refs : List Ref) → AreRight s.tree worth → IsReading s worth root refs terms.now tree reading.now → AreOffsets (HasBadController s worth root) v.items) }
 {
@@ -200,11 +189,7 @@ fn controllers_of(
 }
 
 // All offsets of what is wrong in the groups of maps.
-fn all_of_maps(
-    alloc: Global,
-    terms: &Terms<'_>,
-    reading: &Reading<'_>,
-) -> Result<FaultsOfMaps, Stopped>
+fn all_of_maps(alloc: Global, terms: &Terms<'_>, reading: &Reading) -> Result<FaultsOfMaps, Stopped>
     ensures found { IfOk result (λ x. (s : Specification) (worth : Values) (tree : Trees) (root : Text) (refs : List Ref) → IsReading s worth root refs terms.now tree reading.now → AreOfMaps s root x) }
     ensures memory { IfErr result (λ e. e ≡ Why.Memory) }
 {

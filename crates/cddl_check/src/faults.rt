@@ -7,7 +7,6 @@ ghost use Rattle.cddl_language.specs.Terms.{Ref, Text};
 ghost use Rattle.check_recursion.specs.Order.{AreRanked, IsOrder};
 ghost use Rattle.check_recursion.specs.declared.graph.Order.TheVariants as Orders;
 ghost use Rattle.lists.specs.Least.{IsLeast};
-ghost use Rattle.tree_nodes.specs.View.{view};
 ghost use Rattle.tree_nodes.specs.declared.tree.Tree.{Tree as Trees};
 ghost use Rattle.cddl_check.specs.Outcome.{IsStopped};
 ghost use Rattle.cddl_check.specs.Stages.{AreFlat, AreValued, IsReading};
@@ -27,18 +26,16 @@ use check_root::root_faults::recursion;
 use check_terms::Terms;
 use check_text::laws::root_faults_are_told;
 use std::alloc::Global;
-use tree_nodes::Tree;
 
 // Ranks of what the instances of an accepted specification ask; or the first fault of what its root reaches.
 pub(crate) fn ranks_of(
     alloc: Global,
     terms: &Terms<'_>,
-    tree: &Tree<'_>,
-    reading: &Reading<'_>,
+    reading: &Reading,
 ) -> Result<Ranks, Stopped>
-    ensures accepted { IfOk result (λ r. (s : Specification) (worth : Values) (root : Text) (refs : List Ref) → s.tree ≡ view tree.now → AreTokens s.tree → AreRight s.tree worth → IsReading s worth root refs terms.now tree.now reading.now → IsAccepted s worth) }
-    ensures ranked { IfOk result (λ r. (s : Specification) (worth : Values) (root : Text) (refs : List Ref) → s.tree ≡ view tree.now → AreTokens s.tree → AreRight s.tree worth → IsReading s worth root refs terms.now tree.now reading.now → AreRanked (definitions s) root refs terms.now r) }
-    ensures stopped { IfErr result (λ e. (s : Specification) (worth : Values) (root : Text) (refs : List Ref) → s.tree ≡ view tree.now → AreTokens s.tree → AreRight s.tree worth → IsReading s worth root refs terms.now tree.now reading.now → IsStopped s worth e) }
+    ensures accepted { IfOk result (λ r. (s : Specification) (worth : Values) (tree : Trees) (root : Text) (refs : List Ref) → AreTokens s.tree → AreRight s.tree worth → IsReading s worth root refs terms.now tree reading.now → IsAccepted s worth) }
+    ensures ranked { IfOk result (λ r. (s : Specification) (worth : Values) (tree : Trees) (root : Text) (refs : List Ref) → AreTokens s.tree → AreRight s.tree worth → IsReading s worth root refs terms.now tree reading.now → AreRanked (definitions s) root refs terms.now r) }
+    ensures stopped { IfErr result (λ e. (s : Specification) (worth : Values) (tree : Trees) (root : Text) (refs : List Ref) → AreTokens s.tree → AreRight s.tree worth → IsReading s worth root refs terms.now tree reading.now → IsStopped s worth e) }
 {
     root_faults_are_told();
     if let Some(at) = unwrapping(terms, reading) {
@@ -46,21 +43,21 @@ pub(crate) fn ranks_of(
     }
     let order = order_of(alloc, terms, reading)?;
     let ranks = ranks_in(terms, reading, order)?;
-    check_values(terms, tree, reading)?;
+    check_values(terms, reading)?;
     splice_maps(alloc, terms, reading)?;
     Ok(ranks)
 }
 
 // Nothing, where nothing is wrong with literals and numbers; or the first fault there, where none of a lower code stands.
-fn check_values(terms: &Terms<'_>, tree: &Tree<'_>, reading: &Reading<'_>) -> Result<(), Stopped>
-    ensures valued { OnOk result ((s : Specification) (worth : Values) (root : Text) (refs : List Ref) → s.tree ≡ view tree.now → AreTokens s.tree → AreRight s.tree worth → IsReading s worth root refs terms.now tree.now reading.now → AreValued s worth root) }
-    ensures stopped { IfErr result (λ e. (s : Specification) (worth : Values) (root : Text) (refs : List Ref) → s.tree ≡ view tree.now → AreTokens s.tree → AreRight s.tree worth → IsReading s worth root refs terms.now tree.now reading.now → IsLeast (HasNotUnwrappable s root) None → IsLeast (HasRecursion s root) None → IsStopped s worth e) }
+fn check_values(terms: &Terms<'_>, reading: &Reading) -> Result<(), Stopped>
+    ensures valued { OnOk result ((s : Specification) (worth : Values) (tree : Trees) (root : Text) (refs : List Ref) → AreTokens s.tree → AreRight s.tree worth → IsReading s worth root refs terms.now tree reading.now → AreValued s worth root) }
+    ensures stopped { IfErr result (λ e. (s : Specification) (worth : Values) (tree : Trees) (root : Text) (refs : List Ref) → AreTokens s.tree → AreRight s.tree worth → IsReading s worth root refs terms.now tree reading.now → IsLeast (HasNotUnwrappable s root) None → IsLeast (HasRecursion s root) None → IsStopped s worth e) }
 {
     root_faults_are_told();
     if let Some(at) = literal_of(terms, reading) {
         return Err(refused(Code::NotLiteral, at));
     }
-    if let Some(at) = range_of(terms, tree, reading) {
+    if let Some(at) = range_of(terms, reading) {
         return Err(refused(Code::BadRange, at));
     }
     if let Some(at) = controller_of(terms, reading) {
@@ -70,7 +67,7 @@ fn check_values(terms: &Terms<'_>, tree: &Tree<'_>, reading: &Reading<'_>) -> Re
 }
 
 // Nothing, where nothing is wrong in the groups of maps; or the first fault there, where none of a lower code stands.
-fn splice_maps(alloc: Global, terms: &Terms<'_>, reading: &Reading<'_>) -> Result<(), Stopped>
+fn splice_maps(alloc: Global, terms: &Terms<'_>, reading: &Reading) -> Result<(), Stopped>
     ensures flat { OnOk result ((s : Specification) (worth : Values) (tree : Trees) (root : Text) (refs : List Ref) → IsReading s worth root refs terms.now tree reading.now → AreFlat s root) }
     ensures stopped { IfErr result (λ e. (s : Specification) (worth : Values) (tree : Trees) (root : Text) (refs : List Ref) → IsReading s worth root refs terms.now tree reading.now → IsLeast (HasNotUnwrappable s root) None → IsLeast (HasRecursion s root) None → AreValued s worth root → IsStopped s worth e) }
 {
@@ -89,7 +86,7 @@ fn splice_maps(alloc: Global, terms: &Terms<'_>, reading: &Reading<'_>) -> Resul
 }
 
 // The ranks of an order in which nothing comes back to itself; or the least offset of what does.
-fn ranks_in(terms: &Terms<'_>, reading: &Reading<'_>, order: Order) -> Result<Ranks, Stopped>
+fn ranks_in(terms: &Terms<'_>, reading: &Reading, order: Order) -> Result<Ranks, Stopped>
     ensures ranked { IfOk result (λ r. order ≡ Orders.Ranks r) }
     ensures clear { OnOk result ((s : Specification) (worth : Values) (tree : Trees) (root : Text) (refs : List Ref) → IsReading s worth root refs terms.now tree reading.now → IsOrder (definitions s) root refs terms.now order → IsLeast (HasRecursion s root) None) }
     ensures told { IfErr result (λ e. (s : Specification) (worth : Values) (tree : Trees) (root : Text) (refs : List Ref) → IsReading s worth root refs terms.now tree reading.now → IsOrder (definitions s) root refs terms.now order → IsTold (HasRecursion s root) Code.Recursion e) }
@@ -106,7 +103,7 @@ fn ranks_in(terms: &Terms<'_>, reading: &Reading<'_>, order: Order) -> Result<Ra
 }
 
 // The least offset of what `~` cannot open, or `&` cannot choose from.
-fn unwrapping(terms: &Terms<'_>, reading: &Reading<'_>) -> Option<usize>
+fn unwrapping(terms: &Terms<'_>, reading: &Reading) -> Option<usize>
     ensures { (s : Specification) (worth : Values) (tree : Trees) (root : Text) (refs : List Ref) → IsReading s worth root refs terms.now tree reading.now → IsLeast (HasNotUnwrappable s root) result }
 {
     let meant = &reading.meant;
@@ -119,7 +116,7 @@ fn unwrapping(terms: &Terms<'_>, reading: &Reading<'_>) -> Option<usize>
 pub(crate) fn order_of(
     alloc: Global,
     terms: &Terms<'_>,
-    reading: &Reading<'_>,
+    reading: &Reading,
 ) -> Result<Order, Stopped>
     ensures order { IfOk result (λ o. (s : Specification) (worth : Values) (tree : Trees) (root : Text) (refs : List Ref) → IsReading s worth root refs terms.now tree reading.now → IsOrder (definitions s) root refs terms.now o) }
     ensures memory { IfErr result (λ e. e ≡ Why.Memory) }
@@ -134,7 +131,7 @@ pub(crate) fn order_of(
 }
 
 // The least offset of what comes back to itself.
-fn recursion_of(terms: &Terms<'_>, reading: &Reading<'_>, order: &Order) -> Option<usize>
+fn recursion_of(terms: &Terms<'_>, reading: &Reading, order: &Order) -> Option<usize>
     ensures { (s : Specification) (worth : Values) (tree : Trees) (root : Text) (refs : List Ref) → IsReading s worth root refs terms.now tree reading.now → IsOrder (definitions s) root refs terms.now order.now → IsLeast (HasRecursion s root) result }
 {
     let survey = &reading.survey;
@@ -143,7 +140,7 @@ fn recursion_of(terms: &Terms<'_>, reading: &Reading<'_>, order: &Order) -> Opti
 }
 
 // The least offset of what has to be a literal and is none.
-fn literal_of(terms: &Terms<'_>, reading: &Reading<'_>) -> Option<usize>
+fn literal_of(terms: &Terms<'_>, reading: &Reading) -> Option<usize>
     ensures { (s : Specification) (worth : Values) (tree : Trees) (root : Text) (refs : List Ref) → AreRight s.tree worth → IsReading s worth root refs terms.now tree reading.now → IsLeast (HasNotLiteral s worth root) result }
 {
     let meant = &reading.meant;
@@ -151,7 +148,7 @@ fn literal_of(terms: &Terms<'_>, reading: &Reading<'_>) -> Option<usize>
 }
 
 // The least offset of a controller that is not of the kind that its control asks for.
-fn controller_of(terms: &Terms<'_>, reading: &Reading<'_>) -> Option<usize>
+fn controller_of(terms: &Terms<'_>, reading: &Reading) -> Option<usize>
     ensures { (s : Specification) (worth : Values) (tree : Trees) (root : Text) (refs : List Ref) → AreRight s.tree worth → IsReading s worth root refs terms.now tree reading.now → IsLeast (HasBadController s worth root) result }
 {
     let meant = &reading.meant;
@@ -160,11 +157,11 @@ fn controller_of(terms: &Terms<'_>, reading: &Reading<'_>) -> Option<usize>
 }
 
 // The least offset of a range or of an occurrence with bad ends.
-fn range_of(terms: &Terms<'_>, tree: &Tree<'_>, reading: &Reading<'_>) -> Option<usize>
-    ensures { (s : Specification) (worth : Values) (root : Text) (refs : List Ref) → s.tree ≡ view tree.now → AreTokens s.tree → AreRight s.tree worth → IsReading s worth root refs terms.now tree.now reading.now → IsLeast (HasBadRange s worth root) result }
+fn range_of(terms: &Terms<'_>, reading: &Reading) -> Option<usize>
+    ensures { (s : Specification) (worth : Values) (tree : Trees) (root : Text) (refs : List Ref) → AreTokens s.tree → AreRight s.tree worth → IsReading s worth root refs terms.now tree reading.now → IsLeast (HasBadRange s worth root) result }
 {
     let meant = &reading.meant;
     let asked = &reading.questions.asked;
     let reached = &reading.instanced.reached;
-    bad_range(terms, tree, &meant.literals, asked, reached)
+    bad_range(terms, &meant.literals, asked, reached)
 }

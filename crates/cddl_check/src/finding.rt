@@ -1,4 +1,4 @@
-//! The instances of the root, and the sites that it reaches.
+//! The instances of the root, and the words at the sites that it reaches.
 
 ghost use Rattle.std.specs.Prelude.{◌≡◌, IfErr, IfOk, List, None, Some, option_map, slice_get};
 ghost use Rattle.cddl_token.specs.declared.Code.TheVariants.{TooManyInstances};
@@ -17,11 +17,11 @@ ghost use Rattle.cddl_check.specs.Told.{IsEarly, IsTold};
 use crate::stopped::{Stopped, refused};
 use cddl_token::Code;
 use check_instances::{Found, Instance, instances};
-use check_reached::reached_sites;
+use check_reached::reached_words;
 use check_reading::survey::Survey;
 use check_reading::survey::laws::survey_grows;
+use check_reading::words::Word;
 use check_root::root_faults::too_many;
-use check_sites::sites::Found as Site;
 use check_terms::Terms;
 use check_text::laws::root_faults_are_told;
 use check_text::rule_faults::root_of;
@@ -29,22 +29,22 @@ use std::alloc::Global;
 
 /// What the root leads to.
 #[derive(Drop)]
-pub(crate) struct Instanced<'t> {
+pub(crate) struct Instanced {
     /// The number of the root's name.
     pub root: u32,
     /// The instances, and what they mean.
     pub instances: Vec<Instance>,
-    /// The sites that the root reaches.
-    pub reached: Vec<Site<'t>>,
+    /// The words at the sites that the root reaches.
+    pub reached: Vec<Word>,
 }
 
 // What the root of a text leads to in which nothing is wrong; or that it has more instances than may be.
-pub(crate) fn find_instances<'t>(
+pub(crate) fn find_instances(
     alloc: Global,
     terms: &mut Terms<'_>,
-    survey: &Survey<'t>,
+    survey: &Survey,
     given: Option<&str>,
-) -> Result<Instanced<'t>, Stopped>
+) -> Result<Instanced, Stopped>
     ensures found { IfOk result (λ x. (s : Specification) (worth : Values) (tree : Trees) → IsGiven s worth tree (option_map (λ t. t.now) given.entry) → IsSurvey terms.old tree survey.now → IsRight s worth → (root : Text) × (refs : List Ref) × IsInstanced s root refs terms.new tree survey.now x) }
     ensures stopped { IfErr result (λ e. (s : Specification) (worth : Values) (tree : Trees) → IsGiven s worth tree (option_map (λ t. t.now) given.entry) → IsSurvey terms.old tree survey.now → IsRight s worth → IsStopped s worth e) }
     ensures early { IfErr result IsEarly }
@@ -63,7 +63,7 @@ pub(crate) fn find_instances<'t>(
     )?;
     terms.len();
     let instances = few(found)?;
-    let reached = reached_sites(alloc, terms, survey, &instances)?;
+    let reached = reached_words(alloc, terms, survey, &instances)?;
     Ok(Instanced {
         root,
         instances,
@@ -72,7 +72,7 @@ pub(crate) fn find_instances<'t>(
 }
 
 // The number of the root's name, which a text has in which nothing is wrong.
-fn root_number(terms: &Terms<'_>, survey: &Survey<'_>, given: Option<&str>) -> Result<u32, Stopped>
+fn root_number(terms: &Terms<'_>, survey: &Survey, given: Option<&str>) -> Result<u32, Stopped>
     ensures root { IfOk result (λ n. (s : Specification) (worth : Values) (tree : Trees) → IsGiven s worth tree (option_map (λ t. t.now) given.entry) → IsSurvey terms.now tree survey.now → (root : Text) × (root_in s ≡ Some root) × (slice_get terms.now.texts n ≡ Some root)) }
     ensures stopped { IfErr result (λ e. (s : Specification) (worth : Values) (tree : Trees) → IsGiven s worth tree (option_map (λ t. t.now) given.entry) → IsSurvey terms.now tree survey.now → IsRight s worth → IsStopped s worth e) }
     ensures early { IfErr result IsEarly }

@@ -54,13 +54,13 @@ pub(crate) fn findings_of<'s>(
     root_is_type();
     let mut terms = Terms::new(alloc);
     let reading = read_tree(alloc, &mut terms, tree, given)?;
-    let ranks = ranks_of(alloc, &terms, tree, &reading)?;
+    let ranks = ranks_of(alloc, &terms, &reading)?;
     Ok(kept(terms, reading, ranks))
 }
 
 // What is kept of a reading.
-fn kept<'s>(terms: Terms<'s>, reading: Reading<'_>, ranks: Ranks) -> Findings<'s>
-    ensures { result ≡ record { terms = terms.entry; root = reading.entry.instanced.root; kinds = reading.entry.survey.kinds; meant = reading.entry.meant; splices = reading.entry.splices; ranks = ranks } }
+fn kept<'s>(terms: Terms<'s>, reading: Reading, ranks: Ranks) -> Findings<'s>
+    ensures { result ≡ record { terms = terms.entry; root = reading.instanced.root; kinds = reading.survey.kinds; meant = reading.meant; splices = reading.splices; ranks = ranks } }
 {
     let Reading {
         survey,

@@ -45,7 +45,7 @@ pub(crate) struct Maps {
 pub(crate) fn faults_of_maps(
     alloc: Global,
     terms: &Terms<'_>,
-    reading: &Reading<'_>,
+    reading: &Reading,
 ) -> Result<MapFaults, Stopped>
     ensures found { IfOk result (λ x. (s : Specification) (worth : Values) (tree : Trees) (root : Text) (refs : List Ref) → IsReading s worth root refs terms.now tree reading.now → AreMapFaults s root x) }
     ensures memory { IfErr result (λ e. e ≡ Why.Memory) }
@@ -59,11 +59,7 @@ pub(crate) fn faults_of_maps(
 }
 
 // What is spliced into the maps that the root reaches, and what is wrong with it by its rows.
-pub(crate) fn maps_of(
-    alloc: Global,
-    terms: &Terms<'_>,
-    reading: &Reading<'_>,
-) -> Result<Maps, Stopped>
+pub(crate) fn maps_of(alloc: Global, terms: &Terms<'_>, reading: &Reading) -> Result<Maps, Stopped>
     ensures found { IfOk result (λ x. (s : Specification) (worth : Values) (tree : Trees) (root : Text) (refs : List Ref) → IsReading s worth root refs terms.now tree reading.now → AreMaps s root refs terms.now x) }
     ensures memory { IfErr result (λ e. e ≡ Why.Memory) }
 {

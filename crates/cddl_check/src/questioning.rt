@@ -1,4 +1,4 @@
-//! What is asked of at the sites that the root reaches.
+//! The checks left at the sites that the root reaches.
 
 ghost use Rattle.std.specs.Prelude.{◌≡◌, IfErr, IfOk, List};
 ghost use Rattle.cddl_language.specs.Faults.{Specification};
@@ -6,6 +6,7 @@ ghost use Rattle.cddl_language.specs.Literals.{Values};
 ghost use Rattle.cddl_language.specs.Terms.{Ref, Text};
 ghost use Rattle.check_terms.specs.Table.{Grows};
 ghost use Rattle.tree_nodes.specs.View.{view};
+ghost use Rattle.tree_nodes.specs.declared.tree.Tree.{Tree};
 ghost use Rattle.cddl_check.specs.Stages.{IsAsking, IsInstanced, IsRight};
 ghost use Rattle.cddl_check.specs.declared.stopped.Stopped.TheVariants as Why;
 
@@ -19,37 +20,35 @@ use check_root::reached_faults::not_unwrapped;
 use check_terms::Terms;
 use check_terms::laws::{growing_keeps, is_table};
 use std::alloc::Global;
-use tree_nodes::Tree;
 
-/// What is asked of at the sites that the root reaches.
+/// The checks left at the sites that the root reaches.
 #[derive(Drop)]
 pub(crate) struct Questions {
-    /// What is asked of `&`, of ranges and of maps.
+    /// Those of `&`, of ranges, of controls and of maps.
     pub asked: Vec<Asked>,
-    /// What is asked of the entries that may be spliced into maps.
+    /// Those of the entries that may be spliced into maps.
     pub entries: Vec<Asked>,
-    /// The least offset of `~` that opens nothing, or a group where a type is demanded.
+    /// The least offset of `~` that unwraps nothing, or a group where a type is demanded.
     pub opens: Option<usize>,
 }
 
-// What is asked of at the sites that the root reaches. The table grows by rows.
-pub(crate) fn ask<'s>(
+// The checks left at the sites that the root reaches. The table grows by rows.
+pub(crate) fn ask(
     alloc: Global,
-    terms: &mut Terms<'s>,
-    tree: &Tree<'s>,
-    survey: &Survey<'_>,
-    instanced: &Instanced<'_>,
+    terms: &mut Terms<'_>,
+    survey: &Survey,
+    instanced: &Instanced,
 ) -> Result<Questions, Stopped>
     ensures grows { Grows terms.old terms.new }
     ensures texts { IfOk result (λ x. terms.new.texts ≡ terms.old.texts) }
-    ensures asking { IfOk result (λ x. (s : Specification) (worth : Values) (root : Text) (refs : List Ref) → s.tree ≡ view tree.now → IsRight s worth → IsInstanced s root refs terms.old tree.now survey.now instanced.now → IsAsking s root terms.new x) }
+    ensures asking { IfOk result (λ x. (s : Specification) (worth : Values) (tree : Tree) (root : Text) (refs : List Ref) → s.tree ≡ view tree → IsRight s worth → IsInstanced s root refs terms.old tree survey.now instanced.now → IsAsking s root terms.new x) }
     ensures memory { IfErr result (λ e. e ≡ Why.Memory) }
 {
     growing_keeps();
     instances_grow();
     questions_grow();
     survey_grows();
-    let opens = not_unwrapped(alloc, terms, tree, survey, &instanced.reached)?;
+    let opens = not_unwrapped(alloc, survey, &instanced.reached)?;
     let asked = questions(alloc, terms, survey, &instanced.instances)?;
     is_table(terms);
     let entries = entry_questions(alloc, terms, survey, &instanced.instances)?;

@@ -17,12 +17,12 @@ use std::alloc::Global;
 use tree_nodes::Tree;
 
 // The survey of a text in which nothing is wrong, whatever its root reaches; or the first fault.
-pub(crate) fn clear_text<'s, 't>(
+pub(crate) fn clear_text<'s>(
     alloc: Global,
     terms: &mut Terms<'s>,
-    tree: &'t Tree<'s>,
+    tree: &Tree<'s>,
     given: Option<&str>,
-) -> Result<Survey<'t>, Stopped>
+) -> Result<Survey, Stopped>
     ensures survey { IfOk result (λ v. IsSurvey terms.new tree.now v) }
     ensures right { IfOk result (λ v. (s : Specification) (worth : Values) → IsGiven s worth tree.now (option_map (λ t. t.now) given.entry) → IsRight s worth) }
     ensures stopped { IfErr result (λ e. (s : Specification) (worth : Values) → IsGiven s worth tree.now (option_map (λ t. t.now) given.entry) → IsStopped s worth e) }
@@ -32,7 +32,7 @@ pub(crate) fn clear_text<'s, 't>(
     text_fault_is_told();
     let survey = survey_of(alloc, terms, tree)?;
     text_is_clear(terms);
-    match text_fault(alloc, terms, tree, &survey, given)? {
+    match text_fault(alloc, terms, &survey, given)? {
         Some(fault) => Err(Stopped::Refused(fault)),
         None => Ok(survey),
     }

@@ -10,6 +10,7 @@ ghost use Rattle.check_reading.specs.Survey.Survey.{IsSurvey};
 ghost use Rattle.check_text.specs.Codes.{reached_codes, text_codes};
 ghost use Rattle.check_faults.specs.Listed.{AreListed};
 ghost use Rattle.tree_nodes.specs.View.{view};
+ghost use Rattle.tree_nodes.specs.declared.tree.Tree.{Tree};
 
 use cddl_check::RootFaults;
 use cddl_token::Code;
@@ -17,7 +18,6 @@ use check_reading::survey::Survey;
 use check_terms::Terms;
 use check_text::everywhere::{TEXT_CODES, code_of, offsets_of};
 use std::alloc::{AllocError, Global};
-use tree_nodes::Tree;
 
 /// The faults of one code: the first of them, and how many there are besides.
 #[derive(Debug, Drop)]
@@ -34,16 +34,15 @@ pub struct Listed {
 pub(crate) fn list_of(
     alloc: Global,
     terms: &Terms<'_>,
-    tree: &Tree<'_>,
-    survey: &Survey<'_>,
+    survey: &Survey,
     given: Option<&str>,
     most: usize,
 ) -> Result<Vec<Listed>, AllocError>
-    ensures { IfOk result (λ v. (s : Specification) (worth : Values) → s.tree ≡ view tree.now → s.given ≡ option_map (λ t. t.now) given.entry → IsSurvey terms.now tree.now survey.now → AreListed (IsFaultAt s worth) most text_codes v.items) }
+    ensures { IfOk result (λ v. (s : Specification) (worth : Values) (tree : Tree) → s.tree ≡ view tree → s.given ≡ option_map (λ t. t.now) given.entry → IsSurvey terms.now tree survey.now → AreListed (IsFaultAt s worth) most text_codes v.items) }
 {
     let mut all = Vec::new(alloc);
     'code: for k in 0..TEXT_CODES.len() {
-        let offsets = offsets_of(alloc, terms, tree, survey, given, TEXT_CODES[k])?;
+        let offsets = offsets_of(alloc, terms, survey, given, TEXT_CODES[k])?;
         push_first(&mut all, code_of(TEXT_CODES[k]), offsets, most)?;
     }
     Ok(all)

@@ -109,7 +109,7 @@ pub fn tree_faults(
     let Ok(survey) = survey_of(alloc, &mut terms, tree) else {
         return Err(AllocError);
     };
-    list_of(alloc, &terms, tree, &survey, root, most)
+    list_of(alloc, &terms, &survey, root, most)
 }
 
 // Those of what the root reaches.

@@ -8,7 +8,10 @@ use Rattle.cddl_language.specs.Terms.{Ref, Term, Text, arguments_of}
 use Rattle.cddl_language.specs.MapFaults.{closed_entry}
 use Rattle.check_terms.specs.declared.definition.Body.{Body}
 use Rattle.check_terms.specs.Definitions.{IsBody}
-use Rattle.check_terms.specs.Table.{Holds, Table, Tree}
+use Rattle.check_terms.specs.Table.{Grows, Holds, Table, Tree}
+use Rattle.check_reached.specs.Reached.{AreReachedWords}
+use Rattle.check_reading.specs.Words.{IsSaid, Said}
+use Rattle.check_reading.specs.declared.words.word.Word.{Word}
 use Rattle.check_terms.specs.Trees.{entry_tree, group_tree, ref_tree, term_tree}
 use Rattle.check_instances.specs.declared.found.Instance.{Instance}
 use Rattle.check_instances.specs.Bodies.{AreBodies, no_bodies, further_body}
@@ -71,3 +74,20 @@ entries_kept old new trees rs root answers are = all_entries_kept old new trees 
 
 pub asked_kept : (old new : Table) → ((n : Option ℕ) (x : Tree) → Holds old n x → Holds new n x) → (rs : List S.Rule) (root : Text) (answers : List Asked) → AreAsked rs root old answers → AreAsked rs root new answers
 asked_kept old new trees rs root answers are = all_kept old new trees rs root answers are
+
+-- the words of sites that are reached
+pub words_reached : (old new : Table) → Grows old new → (rs : List S.Rule) (root : Text) (ws : List Word) → AreReachedWords rs root old ws → AreReachedWords rs root new ws
+words_reached old new grows rs root ws are = record {
+  sound = λ w c. let it = are.sound w c in record {
+    rule = it.rule;
+    arguments = it.arguments;
+    site = it.site;
+    place = it.place;
+    reached = it.reached;
+    stands = record { rule = it.stands.rule; said = it.stands.said; there = it.stands.there; is = said_again w it.stands.said it.stands.is };
+  };
+  complete = λ k r xs p x e h says. let it = are.complete k r xs p x e h says in record { word = it.word; present = it.present; rule = it.rule; is = said_again it.word x it.is };
+}
+  where
+    said_again : (w : Word) (x : Said) → IsSaid old w x → IsSaid new w x
+    said_again w x h = record { at = h.at; role = h.role; text = grows.texts w.text x.text h.text; arguments = h.arguments }

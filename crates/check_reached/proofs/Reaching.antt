@@ -1,4 +1,4 @@
--- The sites of the rules whose name has instances are those that are reached.
+-- The words of the rules whose name has instances stand at the sites that are reached.
 use Rattle.std.proofs.Common.{◌≡◌, ℕ, zero, suc, Bool, true, false, if◌then◌else◌, List, [], ◌∷◌, ◌⊎◌, inl, inr, length, map, Option, Some, None, refl, sym, ap, subst, ◌∙◌, slice_get, true≢false}
 use Rattle.std.specs.Cmp.Lexicographic.{same_text}
 use Rattle.std.proofs.lemmas.Cmp.{nat_list_eq_equiv}
@@ -24,10 +24,12 @@ use Rattle.check_instances.specs.Found.{AreFound}
 use Rattle.cddl_language.specs.Live.Live.{IsClear, IsLive}
 use Rattle.check_live.specs.Live.{AreLive}
 use Rattle.check_sites.specs.declared.sites.site.Found.{Found}
-use Rattle.check_sites.specs.Sites.View.{view_site}
-use Rattle.check_sites.specs.Sites.Listed.{WasFound}
+use Rattle.check_sites.specs.Sites.View.{view_found, view_site}
+use Rattle.check_reading.specs.Words.{AreWords, HasWord, IsWordOf, Said, said_at}
+use Rattle.check_reading.specs.declared.words.word.Word.{Word}
+use Rattle.std.specs.List.{Contains}
 use Rattle.check_reached.specs.Calls.{called_in, calls_named, has_any, has_calls, refs_named, with_calls}
-use Rattle.check_reached.specs.Reached.{AreReachedSites, IsReachedSite}
+use Rattle.check_reached.specs.Reached.{AreReachedWords, IsReachedWord}
 use Rattle.check_reached.specs.Asked.{AreReady, IsReady}
 use Rattle.check_reached.proofs.Listing.{listed}
 use Rattle.check_reached.proofs.Lists.{IsIn, at_place, contains, is_in}
@@ -88,18 +90,18 @@ first_row t ns [] r h k = absurd k
 first_row t [] (q ∷ refs) r h k = elim h [ ]
 first_row t (n ∷ ns) (q ∷ refs) r h k = refl
 
-in_called : (ls : List (List ℕ)) (ds : List Definition) (fs : List Found) (f : Found) → IsIn f (called_in ls ds fs) → IsIn f fs × (has_calls ls (slice_get ds f.rule) ≡ true)
+in_called : (ls : List (List ℕ)) (ds : List Definition) (fs : List Word) (f : Word) → IsIn f (called_in ls ds fs) → IsIn f fs × (has_calls ls (slice_get ds f.rule) ≡ true)
 in_called ls ds [] f h = absurd h
 in_called ls ds (g ∷ fs) f h = by (has_calls ls (slice_get ds g.rule)) refl h (in_called ls ds fs f)
   where
     by : (b : Bool) → has_calls ls (slice_get ds g.rule) ≡ b → IsIn f (if b then g ∷ called_in ls ds fs else called_in ls ds fs) → (IsIn f (called_in ls ds fs) → IsIn f fs × (has_calls ls (slice_get ds f.rule) ≡ true)) → ((f ≡ g) ⊎ IsIn f fs) × (has_calls ls (slice_get ds f.rule) ≡ true)
-    by true e (inl same) so = (inl same, ap (λ (x : Found). has_calls ls (slice_get ds x.rule)) same ∙ e)
+    by true e (inl same) so = (inl same, ap (λ (x : Word). has_calls ls (slice_get ds x.rule)) same ∙ e)
     by true e (inr k) so = let w = so k in (inr w.0, w.1)
     by false e k so = let w = so k in (inr w.0, w.1)
 
-is_called : (ls : List (List ℕ)) (ds : List Definition) (fs : List Found) (f : Found) → IsIn f fs → has_calls ls (slice_get ds f.rule) ≡ true → IsIn f (called_in ls ds fs)
+is_called : (ls : List (List ℕ)) (ds : List Definition) (fs : List Word) (f : Word) → IsIn f fs → has_calls ls (slice_get ds f.rule) ≡ true → IsIn f (called_in ls ds fs)
 is_called ls ds [] f h e = absurd h
-is_called ls ds (g ∷ fs) f (inl same) e = subst (λ b. IsIn f (if b then g ∷ called_in ls ds fs else called_in ls ds fs)) (sym (ap (λ (x : Found). has_calls ls (slice_get ds x.rule)) (sym same) ∙ e)) (inl same)
+is_called ls ds (g ∷ fs) f (inl same) e = subst (λ b. IsIn f (if b then g ∷ called_in ls ds fs else called_in ls ds fs)) (sym (ap (λ (x : Word). has_calls ls (slice_get ds x.rule)) (sym same) ∙ e)) (inl same)
 is_called ls ds (g ∷ fs) f (inr h) e = by (has_calls ls (slice_get ds g.rule)) (is_called ls ds fs f h e)
   where
     by : (b : Bool) → IsIn f (called_in ls ds fs) → IsIn f (if b then g ∷ called_in ls ds fs else called_in ls ds fs)
@@ -135,7 +137,14 @@ module _ (t : Table) (is : IsTable t) (rs : List S.Rule) (ds : List Definition) 
       let w = ready_at k r e in
       ap (has_calls ls) w.there ∙ ap has_any w.listed ∙ first_row t w.calls (refs_named (name_in r) refs) i w.trees h
 
--- The laws of sites that are reached.
+-- The laws of words, and of sites that are reached.
+
+abbrev pub WordsStand : Type 0
+WordsStand = (t : Table) (read : Leaf → Token) (fs : List Found) (ws : List Word) → AreWords t ws (map (view_found read) fs) → (w : Word) → Contains ws w → (f : Found) × (Contains fs f × IsWordOf t w (view_found read f))
+
+abbrev pub AllWords : Type 0
+AllWords = (t : Table) (read : Leaf → Token) (fs : List Found) (ws : List Word) → AreWords t ws (map (view_found read) fs) → (f : Found) (x : Said) → Contains fs f → said_at (view_site read f.site) ≡ Some x → HasWord t ws f.rule x
+
 pub record Laws : Type 0 where
   pub live : (rs : List S.Rule) (root : Text) (r : S.Rule) (xs : List Term) (p : Site) → IsReached rs root r xs p → IsLive rs r p
   pub instance : (rs : List S.Rule) (root : Text) (r : S.Rule) (xs : List Term) (p : Site) → IsReached rs root r xs p → (i : Ref) × (IsInstance rs root r i × (xs ≡ arguments_of i))
@@ -151,20 +160,31 @@ module _ (laws : Laws) (s : Specification) (root : Text) (clear : IsClear s) (re
   pub ref_of_instance : (r : S.Rule) (i : Ref) → IsInstance (rules s) root r i → IsIn i (refs_named (name_in r) refs)
   ref_of_instance r i h = is_named (name_in r) refs i (is_in refs i (are.all i h.reached)) h.named
 
-  module _ (t : Table) (is : IsTable t) (ds : List Definition) (defined : AreDefinitions t ds (definitions s)) (found : List Instance) (are_found : AreFound (definitions s) t found refs) (ls : List (List ℕ)) (calls : ls ≡ with_calls t.rows found (no_places (length t.texts))) (read : Leaf → Token) (live : List Found) (are_live : AreLive (rules s) read live) where
-    sound : (f : Found) → IsIn f (called_in ls ds live) → IsReachedSite (rules s) root read f
-    sound f h =
-        let c = in_called ls ds live f h in
-        let w = are_live.sound f (contains live f c.0) in
-        let i = called_ref t is (rules s) ds defined (definitions s) found refs are_found ls calls f.rule w.0 w.1.0 c.1 in
-        record { rule = w.0; arguments = arguments_of i.0; place = w.1.0; reached = laws.reached s root clear w.0 i.0 (view_site read f.site) (instance_of f.rule w.0 i.0 w.1.0 i.1) w.1.1 }
+  module _ (t : Table) (is : IsTable t) (ds : List Definition) (defined : AreDefinitions t ds (definitions s)) (found : List Instance) (are_found : AreFound (definitions s) t found refs) (ls : List (List ℕ)) (calls : ls ≡ with_calls t.rows found (no_places (length t.texts))) (read : Leaf → Token) (live : List Found) (are_live : AreLive (rules s) read live) (stand : WordsStand) (every : AllWords) (ws : List Word) (are_words : AreWords t ws (map (view_found read) live)) where
+    sound : (w : Word) → IsIn w (called_in ls ds ws) → IsReachedWord (rules s) root t w
+    sound w h =
+        let c = in_called ls ds ws w h in
+        let f = stand t read live ws are_words w (contains ws w c.0) in
+        let it = are_live.sound f.0 f.1.0 in
+        let place = subst (λ k. slice_get (rules s) k ≡ Some it.0) (sym f.1.1.rule) it.1.0 in
+        let i = called_ref t is (rules s) ds defined (definitions s) found refs are_found ls calls w.rule it.0 place c.1 in
+        record {
+          rule = it.0;
+          arguments = arguments_of i.0;
+          site = view_site read f.0.site;
+          place = place;
+          reached = laws.reached s root clear it.0 i.0 (view_site read f.0.site) (instance_of w.rule it.0 i.0 place i.1) it.1.1;
+          stands = record { rule = refl; said = f.1.1.said; there = f.1.1.there; is = f.1.1.is };
+        }
 
-    complete : (k : ℕ) (r : S.Rule) (xs : List Term) (p : Site) → slice_get (rules s) k ≡ Some r → IsReached (rules s) root r xs p → WasFound read (called_in ls ds live) k p
-    complete k r xs p e h =
-        let w = are_live.complete k r p e (laws.live (rules s) root r xs p h) in
+    complete : (k : ℕ) (r : S.Rule) (xs : List Term) (p : Site) (x : Said) → slice_get (rules s) k ≡ Some r → IsReached (rules s) root r xs p → said_at p ≡ Some x → HasWord t (called_in ls ds ws) k x
+    complete k r xs p x e h says =
+        let f = are_live.complete k r p e (laws.live (rules s) root r xs p h) in
+        let w = every t read live ws are_words f.0 x f.1.0 (ap said_at f.1.1.1 ∙ says) in
         let i = laws.instance (rules s) root r xs p h in
         let c = ref_called t is (rules s) ds defined (definitions s) found refs are_found ls calls k r i.0 e (ref_of_instance r i.0 i.1.0) in
-        record { found = w.0; contained = contains (called_in ls ds live) w.0 (is_called ls ds live w.0 (is_in live w.0 w.1.0) (ap (λ j. has_calls ls (slice_get ds j)) w.1.1.0 ∙ c)); place = w.1.1.0; same = w.1.1.1 }
+        let rule = w.rule ∙ f.1.1.0 in
+        record { word = w.word; present = contains (called_in ls ds ws) w.word (is_called ls ds ws w.word (is_in ws w.word w.present) (ap (λ j. has_calls ls (slice_get ds j)) rule ∙ c)); rule = rule; is = w.is }
 
-    pub are_reached : AreReachedSites (rules s) root read (called_in ls ds live)
-    are_reached = record { sound = λ f h. sound f (is_in (called_in ls ds live) f h); complete = complete }
+    pub are_reached : AreReachedWords (rules s) root t (called_in ls ds ws)
+    are_reached = record { sound = λ w h. sound w (is_in (called_in ls ds ws) w h); complete = complete }

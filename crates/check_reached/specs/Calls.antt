@@ -6,7 +6,7 @@ use Rattle.check_terms.specs.declared.row.Row.{Row}
 use Rattle.check_terms.specs.declared.definition.Definition.{Definition}
 use Rattle.check_names.specs.Environment.Places.{added}
 use Rattle.check_instances.specs.declared.found.Instance.{Instance}
-use Rattle.check_sites.specs.declared.sites.site.Found.{Found}
+use Rattle.check_reading.specs.declared.words.word.Word.{Word}
 
 -- the number of the name's text, of the reference of this row
 abbrev pub number_in_row : Option Row → Option ℕ
@@ -55,7 +55,7 @@ abbrev pub has_calls : List (List ℕ) → Option Definition → Bool
 has_calls ls None = false
 has_calls ls (Some d) = has_any (slice_get ls d.name)
 
--- the sites of the rules whose name has instances
-abbrev pub called_in : List (List ℕ) → List Definition → List Found → List Found
+-- the words of the rules whose name has instances
+abbrev pub called_in : List (List ℕ) → List Definition → List Word → List Word
 called_in ls ds [] = []
-called_in ls ds (f ∷ fs) = if has_calls ls (slice_get ds f.rule) then f ∷ called_in ls ds fs else called_in ls ds fs
+called_in ls ds (w ∷ ws) = if has_calls ls (slice_get ds w.rule) then w ∷ called_in ls ds ws else called_in ls ds ws

@@ -1,4 +1,4 @@
-//! What is asked of at the sites that a root reaches, in each instance.
+//! The checks left at each reached site, one per instance.
 
 ghost use Rattle.std.specs.Prelude.{◌≡◌, ◌++◌, IfOk, List, OnOk};
 ghost use Rattle.cddl_language.specs.Faults.{Specification, definitions, rules};
@@ -29,10 +29,10 @@ use check_terms::laws::filled_trees;
 use check_terms::{Definition, NoRoom, Terms, push};
 use std::alloc::Global;
 
-/// What is asked of at a site, in one instance.
+/// A check at a site, in one instance.
 #[derive(Clone, Copy)]
 pub struct Asked {
-    /// The offset in bytes at which a fault of it is told.
+    /// The offset in bytes at which its fault is reported.
     pub at: usize,
     /// The row of the group, of the reference or of the type, with the arguments of the instance in the place of the
     /// parameters.
@@ -56,7 +56,7 @@ pub struct Asked {
 pub fn questions(
     alloc: Global,
     terms: &mut Terms<'_>,
-    survey: &Survey<'_>,
+    survey: &Survey,
     found: &[Instance],
 ) -> Result<Vec<Asked>, NoRoom>
     ensures grows { Grows terms.old terms.new }

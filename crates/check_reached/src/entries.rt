@@ -30,7 +30,7 @@ use std::alloc::Global;
 pub fn entry_questions(
     alloc: Global,
     terms: &mut Terms<'_>,
-    survey: &Survey<'_>,
+    survey: &Survey,
     found: &[Instance],
 ) -> Result<Vec<Asked>, NoRoom>
     ensures grows { Grows terms.old terms.new }

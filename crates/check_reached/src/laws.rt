@@ -11,7 +11,9 @@ ghost use Rattle.check_terms.specs.declared.fill.template.Template.{Template};
 ghost use Rattle.check_instances.specs.Found.{AreFound};
 ghost use Rattle.check_instances.specs.declared.found.Instance.{Instance};
 ghost use Rattle.check_reached.specs.Asked.{AreAnswers, AreAsked, AreEntriesAsked};
+ghost use Rattle.check_reached.specs.Reached.{AreReachedWords};
 ghost use Rattle.check_reading.specs.Parts.{Wanted};
+ghost use Rattle.check_reading.specs.declared.words.word.Word.{Word};
 ghost use Rattle.check_reached.specs.Runs.{AreCalls, IsRunOf};
 ghost use Rattle.check_reached.specs.declared.asked.Asked.{Asked};
 ghost use Rattle.check_reached.specs.declared.runs.Call.{Call};
@@ -39,6 +41,11 @@ pub fn entry_questions_grow()
 {
     growing_keeps();
 }
+
+/// The words of the sites that are reached stay so when the table grows.
+pub fn reached_words_grow()
+    ensures { (old new : Table) → Grows old new → (rs : List Rule) (root : Text) (ws : List Word) → AreReachedWords rs root old ws → AreReachedWords rs root new ws }
+{}
 
 // What a table's growth keeps.
 pub(crate) fn answers_grow()

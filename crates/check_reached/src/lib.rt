@@ -1,4 +1,4 @@
-//! Which sites of a text a root reaches, and the rows of what is asked there in each instance.
+//! The words at the sites that a root reaches, and the checks left at each reached site, one per instance.
 #![tactic(auto)]
 
 mod asked;
@@ -10,5 +10,5 @@ mod runs;
 
 pub use crate::asked::{Asked, questions};
 pub use crate::entries::entry_questions;
-pub use crate::reached::reached_sites;
+pub use crate::reached::reached_words;
 pub use check_reading::parts::Question;

@@ -2,3 +2,4 @@ mod OfParts
 mod OfPrelude
 mod OfReader
 pub mod OfSurvey
+mod OfWords

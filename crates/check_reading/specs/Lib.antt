@@ -1,3 +1,4 @@
 pub mod Parts
 pub mod Prelude
 pub mod Survey
+pub mod Words

@@ -4,5 +4,4 @@ pub mod Ending
 pub mod Lemmas
 pub mod Ranges
 pub mod Stars
-pub mod Telling
 pub mod Whole

@@ -1,7 +1,6 @@
 pub mod Lemmas
 pub mod Marking
 pub mod Naming
-pub mod Unwrapping
 pub mod Telling
-pub mod Tokens
-pub mod Used
+pub mod Tildes
+pub mod Wrong

@@ -1,5 +1,5 @@
 -- The codes of the whole text come before that of too many instances, and those of what the root reaches after it.
-use Rattle.std.proofs.Common.{◌≡◌, ℕ, ◌<◌, inl, inr, List, [], ◌∷◌, Option, Some, None, sym, subst, arith}
+use Rattle.std.proofs.Common.{◌≡◌, ℕ, ◌<◌, inl, inr, List, [], ◌∷◌, Some, None, sym, subst, arith}
 use Rattle.cddl_token.specs.declared.Code.{Code}
 use Rattle.cddl_token.specs.declared.Code.TheVariants as C
 use Rattle.lists.specs.Least.{IsLeast}

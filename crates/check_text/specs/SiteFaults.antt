@@ -1,6 +1,8 @@
+pub mod Kinds
 pub mod Marks
 pub mod Names
-pub mod Openings
+pub mod Unwrapped
 pub mod Reads
-pub mod Sites
+pub mod Words
+pub mod Roles
 pub mod Told

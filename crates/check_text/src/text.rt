@@ -9,36 +9,33 @@ ghost use Rattle.cddl_language.specs.Literals.{Values};
 ghost use Rattle.lists.specs.Least.{IsLeast};
 ghost use Rattle.check_reading.specs.Survey.Survey.{IsSurvey};
 ghost use Rattle.tree_nodes.specs.View.{view};
-ghost use Rattle.tree_nodes.specs.declared.tree.Tree.{Tree as Trees};
+ghost use Rattle.tree_nodes.specs.declared.tree.Tree.{Tree};
 
 use crate::fault::{Fault, fault_of, first_of};
 use crate::rule_faults::{bad_root, duplicate, kind_clash, no_root};
-use crate::site_faults::{bad_hash, group_as_type, undefined, unknown_control};
+use crate::site_faults::{SiteCode, site_fault};
 use cddl_token::Code;
 use check_reading::survey::Survey;
 use check_terms::Terms;
 use lists::lesser;
 use std::alloc::{AllocError, Global};
-use tree_nodes::Tree;
 
 /// The first fault of the whole text, whatever its root reaches: of the lowest of C1 to C9 that stands anywhere, the least
 /// offset (RFC 8610; the codes are those of [`Code`]). The root is the given name, or the first rule's.
 ///
-/// It takes a time of n log n for a text of n bytes. An error comes only where memory is refused, or where the table has more
-/// texts than there are numbers of 32 bits.
+/// It takes a time of n log n for a text of n bytes. An error comes only where memory is refused.
 pub fn text_fault(
     alloc: Global,
     terms: &Terms<'_>,
-    tree: &Tree<'_>,
-    survey: &Survey<'_>,
+    survey: &Survey,
     given: Option<&str>,
 ) -> Result<Option<Fault>, AllocError>
-    ensures { IfOk result (λ o. (s : Specification) (worth : Values) → s.tree ≡ view tree.now → s.given ≡ option_map (λ t. t.now) given.entry → IsSurvey terms.now tree.now survey.now → IsFirst (IsFaultAt s worth) text_codes o) }
+    ensures { IfOk result (λ o. (s : Specification) (worth : Values) (tree : Tree) → s.tree ≡ view tree → s.given ≡ option_map (λ t. t.now) given.entry → IsSurvey terms.now tree survey.now → IsFirst (IsFaultAt s worth) text_codes o) }
 {
     let rules = rule_fault(alloc, terms, survey)?;
-    let names = name_fault(alloc, terms, tree, survey)?;
+    let names = name_fault(alloc, terms, survey)?;
     let root = root_fault(terms, survey, given);
-    let types = type_fault(alloc, terms, tree, survey)?;
+    let types = type_fault(alloc, terms, survey)?;
     Ok(first_of(rules, first_of(names, first_of(root, types))))
 }
 
@@ -46,9 +43,9 @@ pub fn text_fault(
 fn rule_fault(
     alloc: Global,
     terms: &Terms<'_>,
-    survey: &Survey<'_>,
+    survey: &Survey,
 ) -> Result<Option<Fault>, AllocError>
-    ensures { IfOk result (λ o. (s : Specification) (worth : Values) (tree : Trees) → s.tree ≡ view tree → IsSurvey terms.now tree survey.now → IsFirst (IsFaultAt s worth) (Duplicate ∷ KindClash ∷ []) o) }
+    ensures { IfOk result (λ o. (s : Specification) (worth : Values) (tree : Tree) → s.tree ≡ view tree → IsSurvey terms.now tree survey.now → IsFirst (IsFaultAt s worth) (Duplicate ∷ KindClash ∷ []) o) }
 {
     let twice = fault_of(Code::Duplicate, duplicate(alloc, terms, survey)?);
     let clash = fault_of(Code::KindClash, kind_clash(terms, survey));
@@ -59,13 +56,12 @@ fn rule_fault(
 fn wrong_arity(
     alloc: Global,
     terms: &Terms<'_>,
-    tree: &Tree<'_>,
-    survey: &Survey<'_>,
+    survey: &Survey,
 ) -> Result<Option<usize>, AllocError>
-    ensures { IfOk result (λ o. (s : Specification) → s.tree ≡ view tree.now → IsSurvey terms.now tree.now survey.now → IsLeast (HasWrongArity s) o) }
+    ensures { IfOk result (λ o. (s : Specification) (tree : Tree) → s.tree ≡ view tree → IsSurvey terms.now tree survey.now → IsLeast (HasWrongArity s) o) }
 {
     let at_rules = crate::rule_faults::wrong_arity(terms, survey);
-    let at_names = crate::site_faults::wrong_arity(alloc, terms, tree, survey)?;
+    let at_names = site_fault(alloc, terms, survey, SiteCode::Arity)?;
     Ok(lesser(at_rules, at_names))
 }
 
@@ -73,19 +69,21 @@ fn wrong_arity(
 fn name_fault(
     alloc: Global,
     terms: &Terms<'_>,
-    tree: &Tree<'_>,
-    survey: &Survey<'_>,
+    survey: &Survey,
 ) -> Result<Option<Fault>, AllocError>
-    ensures { IfOk result (λ o. (s : Specification) (worth : Values) → s.tree ≡ view tree.now → IsSurvey terms.now tree.now survey.now → IsFirst (IsFaultAt s worth) (Undefined ∷ Arity ∷ []) o) }
+    ensures { IfOk result (λ o. (s : Specification) (worth : Values) (tree : Tree) → s.tree ≡ view tree → IsSurvey terms.now tree survey.now → IsFirst (IsFaultAt s worth) (Undefined ∷ Arity ∷ []) o) }
 {
-    let undefined = fault_of(Code::Undefined, undefined(alloc, terms, tree, survey)?);
-    let arity = fault_of(Code::Arity, wrong_arity(alloc, terms, tree, survey)?);
+    let undefined = fault_of(
+        Code::Undefined,
+        site_fault(alloc, terms, survey, SiteCode::Undefined)?,
+    );
+    let arity = fault_of(Code::Arity, wrong_arity(alloc, terms, survey)?);
     Ok(first_of(undefined, arity))
 }
 
 // The first fault of C5 and C6: of the root.
-fn root_fault(terms: &Terms<'_>, survey: &Survey<'_>, given: Option<&str>) -> Option<Fault>
-    ensures { (s : Specification) (worth : Values) (tree : Trees) → s.tree ≡ view tree → s.given ≡ option_map (λ t. t.now) given.entry → IsSurvey terms.now tree survey.now → IsFirst (IsFaultAt s worth) (NoRoot ∷ BadRoot ∷ []) result }
+fn root_fault(terms: &Terms<'_>, survey: &Survey, given: Option<&str>) -> Option<Fault>
+    ensures { (s : Specification) (worth : Values) (tree : Tree) → s.tree ≡ view tree → s.given ≡ option_map (λ t. t.now) given.entry → IsSurvey terms.now tree survey.now → IsFirst (IsFaultAt s worth) (NoRoot ∷ BadRoot ∷ []) result }
 {
     let none = fault_of(Code::NoRoot, no_root(terms, survey, given));
     let bad = fault_of(Code::BadRoot, bad_root(terms, survey, given));
@@ -96,16 +94,15 @@ fn root_fault(terms: &Terms<'_>, survey: &Survey<'_>, given: Option<&str>) -> Op
 fn type_fault(
     alloc: Global,
     terms: &Terms<'_>,
-    tree: &Tree<'_>,
-    survey: &Survey<'_>,
+    survey: &Survey,
 ) -> Result<Option<Fault>, AllocError>
-    ensures { IfOk result (λ o. (s : Specification) (worth : Values) → s.tree ≡ view tree.now → IsSurvey terms.now tree.now survey.now → IsFirst (IsFaultAt s worth) (GroupAsType ∷ HashForm ∷ UnknownControl ∷ []) o) }
+    ensures { IfOk result (λ o. (s : Specification) (worth : Values) (tree : Tree) → s.tree ≡ view tree → IsSurvey terms.now tree survey.now → IsFirst (IsFaultAt s worth) (GroupAsType ∷ HashForm ∷ UnknownControl ∷ []) o) }
 {
-    let group = fault_of(
-        Code::GroupAsType,
-        group_as_type(alloc, terms, tree, survey)?,
-    );
-    let hash = fault_of(Code::HashForm, bad_hash(tree, survey));
-    let control = fault_of(Code::UnknownControl, unknown_control(tree, survey));
+    let group = site_fault(alloc, terms, survey, SiteCode::GroupAsType)?;
+    let hash = site_fault(alloc, terms, survey, SiteCode::HashForm)?;
+    let control = site_fault(alloc, terms, survey, SiteCode::UnknownControl)?;
+    let group = fault_of(Code::GroupAsType, group);
+    let hash = fault_of(Code::HashForm, hash);
+    let control = fault_of(Code::UnknownControl, control);
     Ok(first_of(group, first_of(hash, control)))
 }

@@ -15,13 +15,12 @@ use check_maps::map_faults::{MapFaults, map_faults};
 use check_maps::spliced::{Spliced, spliced_entries};
 use check_names::environment::names;
 use check_names::kinds::{Kinds, kinds_of};
-use check_reached::{Asked, entry_questions, questions, reached_sites};
+use check_reached::{Asked, entry_questions, questions, reached_words};
 use check_reading::survey::Survey;
-use check_sites::sites::Found as FoundSite;
+use check_reading::words::Word;
 use check_terms::Terms;
 use check_text::rule_faults::root_of;
 use std::alloc::Global;
-use tree_nodes::Tree;
 
 /// What is asked at the sites that the root reaches, and of entries.
 #[derive(Drop)]
@@ -74,11 +73,7 @@ pub(crate) struct Meant<'m> {
 }
 
 // The instances, if they are few and memory is there.
-fn instances_in(
-    alloc: Global,
-    terms: &mut Terms<'_>,
-    survey: &Survey<'_>,
-) -> Option<Vec<Instance>> {
+fn instances_in(alloc: Global, terms: &mut Terms<'_>, survey: &Survey) -> Option<Vec<Instance>> {
     let root = root_of(terms, survey, None)?;
     match instances(
         alloc,
@@ -93,20 +88,20 @@ fn instances_in(
     }
 }
 
-// The sites that the root reaches.
-pub(crate) fn sites_in<'t>(
+// The words at the sites that the root reaches.
+pub(crate) fn words_in(
     alloc: Global,
     terms: &Terms<'_>,
-    survey: &Survey<'t>,
+    survey: &Survey,
     found: &[Instance],
-) -> Option<Vec<FoundSite<'t>>> {
-    reached_sites(alloc, terms, survey, found).ok()
+) -> Option<Vec<Word>> {
+    reached_words(alloc, terms, survey, found).ok()
 }
 
 fn questions_in(
     alloc: Global,
     terms: &mut Terms<'_>,
-    survey: &Survey<'_>,
+    survey: &Survey,
     found: &[Instance],
 ) -> Option<Questions> {
     let Ok(asked) = questions(alloc, terms, survey, found) else {
@@ -118,7 +113,7 @@ fn questions_in(
     }
 }
 
-fn reached_in(alloc: Global, terms: &mut Terms<'_>, survey: &Survey<'_>) -> Option<Reached> {
+fn reached_in(alloc: Global, terms: &mut Terms<'_>, survey: &Survey) -> Option<Reached> {
     let instances = instances_in(alloc, terms, survey)?;
     match questions_in(alloc, terms, survey, &instances) {
         Some(questions) => Some(Reached {
@@ -130,7 +125,7 @@ fn reached_in(alloc: Global, terms: &mut Terms<'_>, survey: &Survey<'_>) -> Opti
 }
 
 // The kinds of the names of the table.
-fn kinds_in(alloc: Global, terms: &Terms<'_>, survey: &Survey<'_>) -> Option<Kinds> {
+fn kinds_in(alloc: Global, terms: &Terms<'_>, survey: &Survey) -> Option<Kinds> {
     let count = terms.text_count();
     match &names(alloc, count, &survey.known, &survey.definitions) {
         Ok(names) => kinds_of(alloc, terms, names, &survey.known, &survey.definitions).ok(),
@@ -141,7 +136,7 @@ fn kinds_in(alloc: Global, terms: &Terms<'_>, survey: &Survey<'_>) -> Option<Kin
 fn opened_in(
     alloc: Global,
     terms: &mut Terms<'_>,
-    survey: &Survey<'_>,
+    survey: &Survey,
     found: &[Instance],
 ) -> Option<Opened> {
     let Ok(closed) = close(alloc, terms, found) else {
@@ -261,14 +256,13 @@ fn groups_in(
 fn answer(
     alloc: Global,
     terms: &Terms<'_>,
-    tree: &Tree<'_>,
-    survey: &Survey<'_>,
+    survey: &Survey,
     meant: &Meant<'_>,
     what: &str,
 ) -> Option<String> {
     match what {
         "opened" | "unwrapped" | "literal" | "range" | "number" | "recursion" => {
-            fault_of(alloc, terms, tree, survey, meant, what)
+            fault_of(alloc, terms, survey, meant, what)
         }
         _ => told(alloc, terms, meant, what),
     }
@@ -277,8 +271,7 @@ fn answer(
 fn with_opened(
     alloc: Global,
     terms: &Terms<'_>,
-    tree: &Tree<'_>,
-    survey: &Survey<'_>,
+    survey: &Survey,
     reached: &Reached,
     opened: &Opened,
     what: &str,
@@ -293,7 +286,7 @@ fn with_opened(
                 valued,
                 groups,
             };
-            answer(alloc, terms, tree, survey, &meant, what)
+            answer(alloc, terms, survey, &meant, what)
         }
         _ => None,
     }
@@ -302,13 +295,12 @@ fn with_opened(
 fn with_reached<'s>(
     alloc: Global,
     terms: &mut Terms<'s>,
-    tree: &Tree<'s>,
-    survey: &Survey<'_>,
+    survey: &Survey,
     reached: &Reached,
     what: &str,
 ) -> Option<String> {
     match &opened_in(alloc, terms, survey, &reached.instances) {
-        Some(opened) => with_opened(alloc, terms, tree, survey, reached, opened, what),
+        Some(opened) => with_opened(alloc, terms, survey, reached, opened, what),
         None => None,
     }
 }
@@ -317,12 +309,11 @@ fn with_reached<'s>(
 pub(crate) fn surveyed<'s>(
     alloc: Global,
     terms: &mut Terms<'s>,
-    tree: &Tree<'s>,
-    survey: &Survey<'_>,
+    survey: &Survey,
     what: &str,
 ) -> Option<String> {
     match &reached_in(alloc, terms, survey) {
-        Some(reached) => with_reached(alloc, terms, tree, survey, reached, what),
+        Some(reached) => with_reached(alloc, terms, survey, reached, what),
         None => None,
     }
 }

@@ -1,23 +1,22 @@
 //! Which names of a text are at live sites.
 
 use check_reading::survey::Survey;
-use check_sites::sites::{Found, Site, name_token};
+use check_reading::words::{Role, Word};
 use std::alloc::{AllocError, Global};
-use tree_nodes::Tree;
 
 // The offset of a name.
-fn start_of(tree: &Tree<'_>, found: &Found<'_>) -> Option<usize> {
-    match &found.site {
-        Site::Name { name, .. } => Some(name_token(tree, name).start),
+fn start_of(word: &Word) -> Option<usize> {
+    match word.role {
+        Role::Name { .. } => Some(word.at),
         _ => None,
     }
 }
 
-// The offsets of names, each with a space behind it.
-fn offsets(alloc: Global, tree: &Tree<'_>, live: &[Found<'_>]) -> Result<String, AllocError> {
+// The offsets of names, each with a space after it.
+fn offsets(alloc: Global, live: &[Word]) -> Result<String, AllocError> {
     let mut listed = String::new(alloc);
-    for found in live {
-        if let Some(start) = start_of(tree, found) {
+    for word in live {
+        if let Some(start) = start_of(word) {
             listed.push_str(format!(in alloc; "{start} ")?.as_str())?;
         }
     }
@@ -25,6 +24,6 @@ fn offsets(alloc: Global, tree: &Tree<'_>, live: &[Found<'_>]) -> Result<String,
 }
 
 // The offsets of the live names, if there is memory.
-pub(crate) fn live_names(alloc: Global, tree: &Tree<'_>, survey: &Survey<'_>) -> Option<String> {
-    offsets(alloc, tree, &survey.live).ok()
+pub(crate) fn live_names(alloc: Global, survey: &Survey) -> Option<String> {
+    offsets(alloc, &survey.live).ok()
 }

@@ -18,7 +18,7 @@ fn letter(shape: Option<Shape>) -> &'static str {
 pub(crate) fn kind_of(
     alloc: Global,
     terms: &Terms<'_>,
-    survey: &Survey<'_>,
+    survey: &Survey,
     name: &str,
 ) -> Option<String> {
     match terms.find_text(name) {

@@ -19,19 +19,13 @@ pub(crate) fn text_in(alloc: Global, text: &str) -> Option<String> {
     format!(in alloc; "{text} ").ok()
 }
 
-fn surveyed(
-    alloc: Global,
-    terms: &Terms<'_>,
-    tree: &Tree<'_>,
-    survey: &Survey<'_>,
-    what: &str,
-) -> Option<String> {
+fn surveyed(alloc: Global, terms: &Terms<'_>, survey: &Survey, what: &str) -> Option<String> {
     if what == "live" {
-        return live_names(alloc, tree, survey);
+        return live_names(alloc, survey);
     }
     match what.strip_prefix("kind:") {
         Some(name) => kind_of(alloc, terms, survey, name),
-        None => fault_in(alloc, terms, tree, survey, what),
+        None => fault_in(alloc, terms, survey, what),
     }
 }
 
@@ -44,8 +38,8 @@ fn with_survey<'s>(
 ) -> Option<String> {
     match &survey_of(alloc, terms, tree) {
         Ok(survey) => match room {
-            "root" => chain::surveyed(alloc, terms, tree, survey, what),
-            _ => surveyed(alloc, terms, tree, survey, what),
+            "root" => chain::surveyed(alloc, terms, survey, what),
+            _ => surveyed(alloc, terms, survey, what),
         },
         Err(_) => None,
     }

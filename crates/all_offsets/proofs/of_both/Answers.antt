@@ -1,4 +1,4 @@
-use Rattle.std.proofs.Common.{◌⊎◌, ℕ, sym, subst}
+use Rattle.std.proofs.Common.{◌⊎◌, sym, subst}
 use Rattle.std.specs.List.{Contains}
 use Rattle.all_offsets.specs.Offsets.{AreOf}
 use Rattle.all_offsets.proofs.Lists.{moved_of, of_both}

@@ -15,10 +15,12 @@ use Rattle.check_names.specs.Environment.Environment.{IsStanding}
 use Rattle.check_names.specs.Environment.Names.{AreNames, standing}
 use Rattle.check_names.specs.Environment.Places.{lists}
 use Rattle.check_names.specs.Kinds.Kinds.{AreKinds}
-use Rattle.check_sites.specs.Sites.View.{outside, view_found}
-use Rattle.check_sites.specs.Sites.Walk.{all_outer_sites, all_sites}
+use Rattle.check_sites.specs.Sites.View.{view_found}
+use Rattle.check_sites.specs.Sites.Walk.{all_sites}
+use Rattle.check_sites.specs.declared.sites.site.Found.{Found}
 use Rattle.check_live.specs.Live.{AreLive}
 use Rattle.check_reading.specs.Parts.{AreEntryParts, AreParts, of_found}
+use Rattle.check_reading.specs.Words.{AreWords}
 use Rattle.check_reading.specs.declared.survey.survey.Survey.{Survey}
 
 -- the definitions of a tree
@@ -42,8 +44,11 @@ pub record IsSurvey (t : Table) (tree : Tree) (s : Survey) : Type 0 where
   pub kinds_found : AreKinds t.texts (defined_in tree) s.kinds
   pub starts_found : s.starts.items ≡ map name_at (rules_of (view tree))
   pub parameters_found : lists s.parameters.items ≡ map parameters_at (rules_of (view tree))
-  pub sites_found : map (view_found (token_of tree)) s.sites.items ≡ all_sites (rules_of (view tree))
-  pub outer_found : map (view_found (token_of tree)) (outside s.sites.items) ≡ all_outer_sites (rules_of (view tree))
-  pub live_found : AreLive (rules_of (view tree)) (token_of tree) s.live.items
-  pub parts_read : AreParts t s.parts.items (flat_map (of_found (token_of tree)) s.live.items)
-  pub entries_read : AreEntryParts t (rules_of (view tree)) (token_of tree) s.live.items s.entries.items
+  pub sites : List Found
+  pub sites_found : map (view_found (token_of tree)) sites ≡ all_sites (rules_of (view tree))
+  pub words_read : AreWords t s.words.items (map (view_found (token_of tree)) sites)
+  pub live_sites : List Found
+  pub live_found : AreLive (rules_of (view tree)) (token_of tree) live_sites
+  pub live_read : AreWords t s.live.items (map (view_found (token_of tree)) live_sites)
+  pub parts_read : AreParts t s.parts.items (flat_map (of_found (token_of tree)) live_sites)
+  pub entries_read : AreEntryParts t (rules_of (view tree)) (token_of tree) live_sites s.entries.items

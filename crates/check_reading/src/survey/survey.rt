@@ -1,5 +1,5 @@
 //! A survey of a tree: its definitions and the prelude's, where those of each name stand, the kinds of names, where rules and
-//! their parameters begin, all sites, and what is asked of at the live ones.
+//! their parameters begin, the words at its sites, and the checks at the live ones.
 ghost use Rattle.std.specs.Prelude.{IfOk};
 ghost use Rattle.check_reading.specs.Survey.Survey.{IsSurvey};
 ghost use Rattle.check_terms.specs.Table.{Grows};
@@ -9,11 +9,12 @@ use crate::prelude::add_prelude;
 use crate::reader::read;
 use crate::survey::parameters::all_parameters;
 use crate::survey::starts::starts_of;
+use crate::words::{Word, site_words};
 use check_live::live_sites;
 use check_names::environment::laws::names_stand;
 use check_names::environment::{Name, names};
 use check_names::kinds::{Kinds, kinds_of};
-use check_sites::sites::{Found, sites};
+use check_sites::sites::sites;
 use check_terms::laws::growing_keeps;
 use check_terms::{Definition, NoRoom, Terms};
 use std::alloc::Global;
@@ -21,7 +22,7 @@ use tree_nodes::Tree;
 
 /// What is read of a specification once, by the numbers of a table of terms.
 #[derive(Drop)]
-pub struct Survey<'t> {
+pub struct Survey {
     /// The definitions of the prelude, in order.
     pub known: Vec<Definition>,
     /// The definitions of the text, rule by rule.
@@ -34,10 +35,10 @@ pub struct Survey<'t> {
     pub starts: Vec<usize>,
     /// The offsets in bytes of the parameters of each rule.
     pub parameters: Vec<Vec<usize>>,
-    /// All sites, rule by rule.
-    pub sites: Vec<Found<'t>>,
-    /// The live sites: those outside of arguments, and those in an argument whose parameter is used.
-    pub live: Vec<Found<'t>>,
+    /// The words at all sites, rule by rule.
+    pub words: Vec<Word>,
+    /// The words at the live sites: those outside of arguments, and those in an argument whose parameter is used.
+    pub live: Vec<Word>,
     /// What is asked of at the live sites.
     pub parts: Vec<Part>,
     /// What is asked of the entries of maps at live sites, and of those of each rule's own group and of the map or the array
@@ -45,17 +46,17 @@ pub struct Survey<'t> {
     pub entries: Vec<Part>,
 }
 
-/// Reads the prelude and the rules of the tree, and finds all sites, which of them are live, the rows of what is asked of there,
-/// where names are defined, of what kind they are, and where rules and their parameters begin.
+/// Reads the prelude and the rules of the tree, and finds the words at all sites and at the live ones, the rows that are checked at
+/// these, where names are defined, of what kind they are, and where rules and their parameters begin.
 ///
 /// The parts of live sites and the entries of maps are read once more, each by itself: so a tree of n nodes takes a time of
 /// n log n for each bracket that is open at most, of which the parser has 128. The table keeps what it has, also after an error,
 /// which comes only where memory is refused or each number of 32 bits is taken.
-pub fn survey_of<'s, 't>(
+pub fn survey_of<'s>(
     alloc: Global,
     terms: &mut Terms<'s>,
-    tree: &'t Tree<'s>,
-) -> Result<Survey<'t>, NoRoom>
+    tree: &Tree<'s>,
+) -> Result<Survey, NoRoom>
     ensures grows { Grows terms.old terms.new }
     ensures survey { IfOk result (λ v. IsSurvey terms.new tree.now v) }
 {
@@ -66,11 +67,13 @@ pub fn survey_of<'s, 't>(
     let Ok(sites) = sites(alloc, tree) else {
         return Err(NoRoom);
     };
-    let Ok(live) = live_sites(alloc, terms, tree, &definitions, &sites) else {
+    let Ok(reached) = live_sites(alloc, terms, tree, &definitions, &sites) else {
         return Err(NoRoom);
     };
-    let parts = site_parts(alloc, terms, tree, &live)?;
-    let entries = entry_parts(alloc, terms, tree, &live)?;
+    let words = site_words(alloc, terms, tree, &sites)?;
+    let live = site_words(alloc, terms, tree, &reached)?;
+    let parts = site_parts(alloc, terms, tree, &reached)?;
+    let entries = entry_parts(alloc, terms, tree, &reached)?;
     let count = terms.text_count();
     terms.len();
     let Ok(names) = names(alloc, count, &known, &definitions) else {
@@ -92,7 +95,7 @@ pub fn survey_of<'s, 't>(
         kinds,
         starts,
         parameters,
-        sites,
+        words,
         live,
         parts,
         entries,

@@ -1,3 +1,2 @@
 -- What callers' proofs may name of this crate.
-pub use Rattle.check_root.proofs.OfRangeFaults.Telling.{Goes, finished, step_at}
 pub use Rattle.check_root.proofs.OfRangeFaults.Whole.{OneTerm}

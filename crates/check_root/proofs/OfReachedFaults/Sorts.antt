@@ -1,5 +1,5 @@
 -- What `~` of a name opens has one sort, whatever its arguments.
-use Rattle.std.proofs.Common.{◌≡◌, ℕ, zero, suc, Bool, true, false, if◌then◌else◌, List, [], ◌∷◌, Option, Some, None, refl, sym, ap, ◌∙◌}
+use Rattle.std.proofs.Common.{◌≡◌, ℕ, zero, suc, Bool, true, false, if◌then◌else◌, List, [], ◌∷◌, Option, None, refl}
 use Rattle.tree_nodes.specs.Syntax.Syntax as S
 use Rattle.cddl_language.specs.Environment.{definitions_of, is_group_socket, is_in, most_names}
 use Rattle.cddl_language.specs.Faults.{Specification, definitions, opened_there}
@@ -8,8 +8,8 @@ use Rattle.cddl_language.specs.Reading.{parameters_in, ref_of}
 use Rattle.cddl_language.specs.Sites.{is_parameter, ref_name}
 use Rattle.cddl_language.specs.Substitution.{fill_ref, fill_all}
 use Rattle.cddl_language.specs.Terms.{Text, Term, literal, named, parens, map_of, array_of, unwrapped, choice_of, choice_of_name, tagged, tagged_by, simple_by, hash, range, control, or, Ref, call, Terms, no_terms, Body, of_types, of_entry, Definition, stripped, term_list, name_of}
-use Rattle.check_names.specs.Kinds.Kinds.{Sort, sort_of}
-use Rattle.check_text.specs.SiteFaults.Openings.{sort_named}
+use Rattle.check_names.specs.Kinds.Kinds.{sort_of}
+use Rattle.check_text.specs.SiteFaults.Unwrapped.{sort_named}
 
 module _ (next : Ref → Option Opened) (same : (n : Text) (ts us : Terms) → sort_of (next (call n ts)) ≡ sort_of (next (call n us))) where
   of_way : (ps : List Text) (xs ys : List Term) (r : Ref) → sort_of (way_through next ps xs r) ≡ sort_of (way_through next ps ys r)
@@ -56,7 +56,7 @@ of_name (suc k) ds n ts us = by (is_group_socket n) (of_definitions (λ r. opene
 of_reference : (ds : List Definition) (ps : List Text) (xs : List Term) (r : Ref) → sort_of (opened ds (call (name_of r) no_terms)) ≡ sort_of (opened ds (fill_ref ps xs r))
 of_reference ds ps xs (call n ts) = of_name (most_names ds) ds n no_terms (fill_all ps xs ts)
 
-pub one_sort : (s : Specification) (r : S.Rule) (xs : List Term) (f : S.Ref) → sort_named (definitions s) r f ≡ sort_of (opened_there s r xs f)
+pub one_sort : (s : Specification) (r : S.Rule) (xs : List Term) (f : S.Ref) → sort_named (definitions s) r (ref_name f) ≡ sort_of (opened_there s r xs f)
 one_sort s r xs f = by (is_parameter r (ref_name f))
   where
     by : (b : Bool) → (if b then None else sort_of (opened (definitions s) (call (ref_name f) no_terms))) ≡ sort_of (if b then None else opened (definitions s) (fill_ref (parameters_in r) xs (ref_of f)))

@@ -1,40 +1,39 @@
 -- Occurrences with a minimum over their maximum.
-use Rattle.std.specs.Prelude.{◌≡◌, ℕ, List, Contains, Option, Some, None}
-use Rattle.cddl_token.specs.declared.Token.{Token}
-use Rattle.tree_nodes.specs.declared.tree.Leaf.{Leaf}
-use Rattle.cddl_language.specs.Faults.{IsOver, occur_token}
+use Rattle.std.specs.Prelude.{◌≡◌, ℕ, List, Contains, Option, Some, None, slice_get}
+use Rattle.cddl_language.specs.Faults.{IsOver}
 use Rattle.cddl_language.specs.Numbers.{least_in, most_in}
-use Rattle.cddl_language.specs.Reading.{text_of}
-use Rattle.cddl_language.specs.Sites.{Site, an_entry}
+use Rattle.cddl_language.specs.Terms.{Text}
+use Rattle.check_reading.specs.declared.words.word.Role.{Role}
+use Rattle.check_reading.specs.declared.words.word.Role.TheVariants as RoleV
+use Rattle.check_reading.specs.declared.words.word.Word.{Word}
 use Rattle.check_terms.specs.Texts.Occurrence.{IsTooGreat}
-use Rattle.check_sites.specs.declared.sites.site.Found.{Found}
-use Rattle.check_sites.specs.Sites.View.{view_site}
 
--- the occurrence of the entry at a site
-abbrev pub occur_at : Site → Option Token
-occur_at (an_entry e) = occur_token e
-occur_at _ = None
+-- the text of a word that is an occurrence, by its number in these texts
 
-abbrev pub occur_found : (Leaf → Token) → Found → Option Token
-occur_found read f = occur_at (view_site read f.site)
+abbrev pub occurrence_text : Role → Option Text → Option Text
+occurrence_text RoleV.Occurrence o = o
+occurrence_text _ o = None
+
+abbrev pub occurrence_in : List Text → Word → Option Text
+occurrence_in texts w = occurrence_text w.role (slice_get texts w.text)
 
 -- its minimum is over its maximum
 
-abbrev pub IsOverToken : Token → ℕ → Type 0
-IsOverToken t at = IsOver (least_in (text_of t)) (most_in (text_of t)) × (at ≡ t.start)
+abbrev pub IsOverText : Option Text → ℕ → ℕ → Type 0
+IsOverText None start at = ⊥
+IsOverText (Some n) start at = IsOver (least_in n) (most_in n) × (at ≡ start)
 
-abbrev pub IsOverThere : Option Token → ℕ → Type 0
-IsOverThere None at = ⊥
-IsOverThere (Some t) at = IsOverToken t at
-
-abbrev pub IsOverFound : (Leaf → Token) → Found → ℕ → Type 0
-IsOverFound read f at = IsOverThere (occur_found read f) at
+abbrev pub IsOverWord : List Text → Word → ℕ → Type 0
+IsOverWord texts w at = IsOverText (occurrence_in texts w) w.at at
 
 -- its numbers are below 2^64
 
-abbrev pub IsSmall : Option Token → Type 0
-IsSmall None = Unit {0}
-IsSmall (Some t) = IsTooGreat (text_of t) → ⊥
+abbrev pub IsSmallText : Option Text → Type 0
+IsSmallText None = Unit {0}
+IsSmallText (Some n) = IsTooGreat n → ⊥
 
-abbrev pub AreSmall : (Leaf → Token) → List Found → Type 0
-AreSmall read fs = (f : Found) → Contains fs f → IsSmall (occur_found read f)
+abbrev pub IsSmall : List Text → Word → Type 0
+IsSmall texts w = IsSmallText (occurrence_in texts w)
+
+abbrev pub AreSmall : List Text → List Word → Type 0
+AreSmall texts ws = (w : Word) → Contains ws w → IsSmall texts w

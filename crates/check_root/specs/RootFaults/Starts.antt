@@ -1,5 +1,5 @@
 -- Where the first rules of the names of instances begin, by the rows of a table, the places of names and where each rule begins.
-use Rattle.std.specs.Prelude.{ℕ, ◌+◌, Bool, if◌then◌else◌, List, [], ◌∷◌, Option, Some, None, slice_get}
+use Rattle.std.specs.Prelude.{ℕ, Bool, if◌then◌else◌, List, [], ◌∷◌, Option, Some, None, slice_get}
 use Rattle.check_terms.specs.declared.row.Row.{Row}
 use Rattle.check_terms.specs.Table.{Table}
 use Rattle.check_names.specs.declared.environment.environment.Name.{Name}

@@ -10,7 +10,7 @@ use Rattle.all_offsets.specs.Offsets.{AreOf}
 use Rattle.check_text.specs.Everywhere.Rules.{IsToldAtRule, IsToldAtRules}
 use Rattle.check_text.specs.RuleFaults.Arity.{HasOtherCount, HasWrongArityAtRule}
 use Rattle.check_text.specs.RuleFaults.Kinds.{IsClashAt}
-use Rattle.check_text.specs.SiteFaults.Sites.{HasWrongArityAtName}
+use Rattle.check_text.specs.SiteFaults.Words.{HasWrongArityAtName}
 use Rattle.check_text.specs.declared.everywhere.rules.RuleCode.{RuleCode}
 use Rattle.check_text.specs.declared.everywhere.rules.RuleCode.TheVariants.{Duplicate, KindClash, Arity}
 use Rattle.all_offsets.proofs.Lemmas.{IsOne, of_both, same_of}

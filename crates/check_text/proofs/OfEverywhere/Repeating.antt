@@ -1,5 +1,5 @@
 -- All offsets of what is defined twice, at one rule.
-use Rattle.std.proofs.Common.{◌≡◌, ◌⊎◌, inl, inr, ℕ, ◌+◌, ◌≤◌, Bool, not, ◌||◌, nat_eq, List, [], length, Option, Some, slice_get, sym, subst, ◌∙◌}
+use Rattle.std.proofs.Common.{◌≡◌, ◌⊎◌, inl, ℕ, ◌+◌, ◌≤◌, Bool, not, ◌||◌, nat_eq, List, [], length, Option, Some, slice_get, sym, subst, ◌∙◌}
 use Rattle.all_offsets.specs.Offsets.{Gains, IsThatOf}
 use Rattle.check_text.specs.RuleFaults.Duplicates.{IsRepeated, is_among, told_again}
 use Rattle.lists.proofs.Lemmas.{either, one_of}

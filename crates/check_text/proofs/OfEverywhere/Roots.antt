@@ -1,6 +1,5 @@
 -- What is wrong with the root is told at one offset at most.
 use Rattle.std.proofs.Common.{◌≡◌, ℕ, Some, sym, ap, subst, ◌∙◌}
-use Rattle.tree_nodes.specs.Syntax.Syntax as S
 use Rattle.cddl_language.specs.Faults.{HasBadRoot, HasNoRoot, no_rule, no_such, Specification, first_rule, root_of, rules}
 use Rattle.cddl_language.specs.Reading.{name_at}
 use Rattle.lists.proofs.Lemmas.{one_of}

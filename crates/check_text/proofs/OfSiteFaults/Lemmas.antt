@@ -6,7 +6,7 @@ use Rattle.cddl_language.specs.Faults.{HasWrongArity, Specification, definitions
 use Rattle.cddl_language.specs.Reading.{name_at, name_in, parameters_in}
 use Rattle.lists.specs.Least.{IsLeast, lesser_of}
 use Rattle.lists.proofs.Lemmas.{same_least as alike, lesser_least as either}
-use Rattle.check_text.specs.SiteFaults.Sites.{HasWrongArityAtName, by_name, by_parameter}
+use Rattle.check_text.specs.SiteFaults.Words.{HasWrongArityAtName, by_name, by_parameter}
 
 pub name_has_wrong_arity : (s : Specification) (at : ℕ) → HasWrongArityAtName s at → HasWrongArity s at
 name_has_wrong_arity s at (by_name h e c w o) = F.by_name h e c w o

@@ -1,5 +1,5 @@
 -- What a survey says of a name by its number is what the definitions say of the name.
-use Rattle.std.proofs.Common.{◌≡◌, ◌≢◌, ℕ, zero, suc, ◌+◌, ◌-◌, ◌<◌, ◌⊎◌, inl, inr, nat_eq, Bool, true, false, if◌then◌else◌, ◌||◌, is_some, List, [], ◌∷◌, ◌++◌, length, Option, Some, None, slice_get, refl, sym, ap, subst, ◌∙◌, arith}
+use Rattle.std.proofs.Common.{◌≡◌, ◌≢◌, ℕ, zero, suc, ◌<◌, ◌⊎◌, inl, inr, nat_eq, Bool, true, false, if◌then◌else◌, ◌||◌, is_some, List, [], ◌∷◌, ◌++◌, length, Option, Some, slice_get, refl, sym, ap, subst, ◌∙◌, arith}
 use Rattle.std.specs.Cmp.Lexicographic.{same_text}
 use Rattle.std.proofs.lemmas.Bool.Decides.{eqb_tells}
 use Rattle.std.proofs.lemmas.Cmp.{nat_list_eq_equiv}
@@ -9,9 +9,9 @@ use Rattle.tree_nodes.specs.declared.tree.Tree.{Tree}
 use Rattle.tree_nodes.specs.View.{view}
 use Rattle.cddl_language.specs.Terms as L
 use Rattle.cddl_language.specs.Terms.{Text}
-use Rattle.cddl_language.specs.Environment.{counting, definitions_of, has_any, has_equals, is_group_socket, is_in, is_same, is_socket, most_names, named_so}
+use Rattle.cddl_language.specs.Environment.{counting, definitions_of, has_any, has_equals, is_in, is_same, named_so}
 use Rattle.cddl_language.specs.Faults.{first_count, parameter_count}
-use Rattle.cddl_language.specs.Kinds.{first_defines_group, is_group, is_group_in}
+use Rattle.cddl_language.specs.Kinds.{is_group}
 use Rattle.cddl_language.specs.Prelude.{prelude}
 use Rattle.cddl_language.specs.Reading.{definition_of, definitions_in, parameters_in, rules_of}
 use Rattle.cddl_language.specs.Sites.{is_parameter}
@@ -24,11 +24,12 @@ use Rattle.check_names.specs.Environment.Names.{standing}
 use Rattle.check_names.specs.Environment.Places.{first_of}
 use Rattle.check_reading.specs.Survey.Survey.{defined_in}
 use Rattle.check_reading.specs.declared.survey.survey.Survey.{Survey}
-use Rattle.check_text.specs.SiteFaults.Marks.{is_among, is_marked, is_parameter_of}
-use Rattle.check_text.specs.SiteFaults.Names.{IsNumber, count_first, count_in, count_there, is_defined_there, kind_there, name_there}
+use Rattle.check_text.specs.SiteFaults.Marks.{has_mark, is_among, is_parameter_of}
+use Rattle.check_text.specs.SiteFaults.Names.{count_first, count_in, count_there, is_defined_there}
+use Rattle.check_names.specs.Kinds.Kinds.{is_group_there}
 use Rattle.check_text.specs.SiteFaults.Reads.{IsRead}
 use Rattle.check_text.specs.declared.site_faults.marks.Mark.{Mark}
-use Rattle.check_text.proofs.OfSiteFaults.Telling.{one_of}
+use Rattle.lists.proofs.Lemmas.{one_of}
 
 element : {X : Type 0} (xs : List X) (k : ℕ) → k < length xs → (x : X) × (slice_get xs k ≡ Some x)
 element [] k h = absurd (omega (arith, h))
@@ -57,28 +58,6 @@ module _ (texts : List Text) (distinct : AreDistinct texts) (k : ℕ) (n : Text)
   same_among [] (x ∷ ns) h = elim h [ ]
   same_among (p ∷ ps) [] h = elim h [ ]
   same_among (p ∷ ps) (x ∷ ns) (further_text e h) = λ i. same_name p x e i || same_among ps ns h i
-
--- of a name without a number
-
-module _ (texts : List Text) (n : Text) (missing : (k : ℕ) → slice_get texts k ≢ Some n) where
-  other_name : (p : ℕ) (x : Text) → slice_get texts p ≡ Some x → is_same x n ≡ false
-  other_name p x h = by (is_same x n) refl
-    where
-      by : (b : Bool) → b ≡ is_same x n → is_same x n ≡ false
-      by true f = absurd (missing p (h ∙ ap Some (same_text x n f)))
-      by false f = sym f
-
-  none_among : (ps : List ℕ) (ns : List Text) → AreTexts texts ps ns → false ≡ is_in ns n
-  none_among [] [] no_texts = refl
-  none_among [] (x ∷ ns) h = elim h [ ]
-  none_among (p ∷ ps) [] h = elim h [ ]
-  none_among (p ∷ ps) (x ∷ ns) (further_text e h) = λ i. sym (other_name p x e) i || none_among ps ns h i
-
-none_named : (t : Table) (n : Text) → ((k : ℕ) → slice_get t.texts k ≢ Some n) → (ds : List Definition) (xs : List L.Definition) → AreDefinitions t ds xs → named_so n xs ≡ []
-none_named t n missing [] [] no_definitions = refl
-none_named t n missing [] (x ∷ xs) h = elim h [ ]
-none_named t n missing (d ∷ ds) [] h = elim h [ ]
-none_named t n missing (d ∷ ds) (x ∷ xs) (further_definition h hs) = subst (λ b. (if b then x ∷ named_so n xs else named_so n xs) ≡ []) (sym (other_name t.texts n missing d.name x.name h.name)) (none_named t n missing ds xs hs)
 
 -- the definitions at places
 
@@ -128,60 +107,28 @@ any_defined ys (x ∷ xs) = by ys (has_equals (x ∷ xs))
     by (y ∷ ys) true = refl
     by (y ∷ ys) false = refl
 
--- a name without definitions is a group's only as a socket
-
-prelude_some : 0 < length prelude
-unfolding prelude
-prelude_some = omega arith
-
-not_group : (n : Text) → is_socket n ≡ false → is_group_socket n ≡ false
-not_group [] e = refl
-not_group (b ∷ bs) e = subst (λ (x : Bool). (if x then is_socket bs else false) ≡ false) (sym e) refl
-
-kind_of_none : (n : Text) (xs : List L.Definition) → named_so n prelude ≡ [] → named_so n xs ≡ [] → is_group_socket n ≡ is_group xs n
-kind_of_none n xs e f = subst (λ m. is_group_socket n ≡ is_group_in m xs n) (sym one_more) (by (is_socket n) refl)
-  where
-    one_more : most_names xs ≡ suc (length prelude + length xs - 1)
-    one_more = omega (arith, prelude_some)
-
-    otherwise : is_group_socket n ≡ false → is_group_socket n ≡ (if has_any (named_so n prelude) then false else first_defines_group (λ m. is_group_in (length prelude + length xs - 1) xs m) xs (named_so n xs))
-    otherwise g = g ∙ (λ i. if has_any (sym e i) then false else first_defines_group (λ m. is_group_in (length prelude + length xs - 1) xs m) xs (sym f i))
-
-    by : (b : Bool) → is_socket n ≡ b → is_group_socket n ≡ (if b then is_group_socket n else (if has_any (named_so n prelude) then false else first_defines_group (λ m. is_group_in (length prelude + length xs - 1) xs m) xs (named_so n xs)))
-    by true g = refl
-    by false g = otherwise (not_group n g)
-
 module _ (t : Table) (tree : Tree) (s : Survey) (ms : List Mark) (is : IsRead t tree s ms) where
-  missing : (n : Text) → IsNumber t.texts n None → (k : ℕ) → slice_get t.texts k ≢ Some n
-  missing n h k e = h k (let l = slice_get_within t.texts k n e in let f = is.few in omega (arith, l, f)) e
-
   standing_at : (k : ℕ) (n : Text) → slice_get t.texts k ≡ Some n → (v : Name) × (slice_get s.names.items k ≡ Some v) × IsStanding (defined_in tree) n (standing v)
   standing_at k n e =
       let v = element s.names.items k (subst (λ m. k < m) (sym is.survey.names_found.all) (slice_get_within t.texts k n e)) in
       (v.0, v.1, is.survey.names_stand k n v.0 e v.1)
 
-  pub same_parameter : (rule : ℕ) (r : S.Rule) (n : Text) (o : Option ℕ) → slice_get (rules_of (view tree)) rule ≡ Some r → IsNumber t.texts n o → is_marked ms rule o ≡ is_parameter r n
-  same_parameter rule r n o place h = by o h
-    where
-      d : (d : Definition) × (slice_get s.definitions.items rule ≡ Some d) × IsDefinition t d (definition_of r)
-      d = definition_there t s.definitions.items (defined_in tree) rule (definition_of r) is.survey.text_read (rule_definition (rules_of (view tree)) rule r place)
+  -- what is said of the name n by the number k of its text
 
-      by : (o : Option ℕ) → IsNumber t.texts n o → is_marked ms rule o ≡ is_parameter r n
-      by None h = none_among t.texts n (missing n h) d.0.parameters.items (parameters_in r) d.2.parameters
-      by (Some k) h = is.marked rule k ∙ ap (λ (x : Option Definition). is_parameter_of x k) d.1 ∙ same_among t.texts is.survey.table.texts k n h d.0.parameters.items (parameters_in r) d.2.parameters
+  pub same_parameter : (rule k : ℕ) (r : S.Rule) (n : Text) → slice_get (rules_of (view tree)) rule ≡ Some r → slice_get t.texts k ≡ Some n → has_mark ms rule k ≡ is_parameter r n
+  same_parameter rule k r n place h =
+      let d = definition_there t s.definitions.items (defined_in tree) rule (definition_of r) is.survey.text_read (rule_definition (rules_of (view tree)) rule r place) in
+      is.marked rule k ∙ ap (λ (x : Option Definition). is_parameter_of x k) d.1 ∙ same_among t.texts is.survey.table.texts k n h d.0.parameters.items (parameters_in r) d.2.parameters
 
-  pub same_defined : (n : Text) (o : Option ℕ) → IsNumber t.texts n o → is_defined_there (name_there s.names.items o) ≡ has_any (definitions_of (defined_in tree) n)
-  same_defined n None h = sym (any_defined (named_so n prelude) (named_so n (defined_in tree)) ∙ (λ i. has_any (none_named t n (missing n h) s.known.items prelude is.survey.prelude_read i) || has_any (none_named t n (missing n h) s.definitions.items (defined_in tree) is.survey.text_read i)))
-  same_defined n (Some k) h =
+  pub same_defined : (n : Text) (k : ℕ) → slice_get t.texts k ≡ Some n → is_defined_there (slice_get s.names.items k) ≡ has_any (definitions_of (defined_in tree) n)
+  same_defined n k h =
       let v = standing_at k n h in
       ap is_defined_there v.1 ∙ (λ i. v.2.in_prelude i || (ap is_some v.2.first ∙ any_first (defined_in tree) (named_from 0 n (defined_in tree)) (named_so n (defined_in tree)) v.2.defined) i) ∙ sym (any_defined (named_so n prelude) (named_so n (defined_in tree)))
 
-  pub same_count : (n : Text) (o : Option ℕ) → IsNumber t.texts n o → count_there s.definitions.items (name_there s.names.items o) ≡ parameter_count (defined_in tree) n
-  same_count n None h = λ i. if has_any (sym (none_named t n (missing n h) s.known.items prelude is.survey.prelude_read) i) then Some 0 else first_count (sym (none_named t n (missing n h) s.definitions.items (defined_in tree) is.survey.text_read) i)
-  same_count n (Some k) h =
+  pub same_count : (n : Text) (k : ℕ) → slice_get t.texts k ≡ Some n → count_there s.definitions.items (slice_get s.names.items k) ≡ parameter_count (defined_in tree) n
+  same_count n k h =
       let v = standing_at k n h in
       ap (count_there s.definitions.items) v.1 ∙ (λ i. if v.2.in_prelude i then Some 0 else (ap (count_first s.definitions.items) v.2.first ∙ counted_first t s.definitions.items (defined_in tree) is.survey.text_read (named_from 0 n (defined_in tree)) (named_so n (defined_in tree)) v.2.defined) i)
 
-  pub same_kind : (n : Text) (o : Option ℕ) → IsNumber t.texts n o → kind_there s.kinds n o ≡ is_group (defined_in tree) n
-  same_kind n None h = kind_of_none n (defined_in tree) (none_named t n (missing n h) s.known.items prelude is.survey.prelude_read) (none_named t n (missing n h) s.definitions.items (defined_in tree) is.survey.text_read)
-  same_kind n (Some k) h = is.survey.kinds_found.groups k n h
+  pub same_kind : (n : Text) (k : ℕ) → slice_get t.texts k ≡ Some n → is_group_there s.kinds k ≡ is_group (defined_in tree) n
+  same_kind n k h = is.survey.kinds_found.groups k n h

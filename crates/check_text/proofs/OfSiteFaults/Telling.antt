@@ -1,175 +1,138 @@
--- The least offset of what is told at sites, from what is told at each.
-use Rattle.std.proofs.Common.{◌≡◌, ℕ, zero, suc, ◌+◌, ◌<◌, ◌≤◌, ◌⊎◌, inl, inr, List, [], ◌∷◌, length, map, drop, get_or, Option, Some, None, slice_get, refl, sym, ap, subst, ◌∙◌, arith}
+-- What is told at the words of a text is told at its sites.
+use Rattle.std.proofs.Common.{◌≡◌, ◌<◌, ◌≤◌, ℕ, false, List, get_or, length, map, Option, Some, None, slice_get, refl, sym, ap, subst, ◌∙◌, le_refl}
 use Rattle.std.specs.List.{Contains}
-use Rattle.std.proofs.Math.ListN.{drop_of_length-le}
-use Rattle.std.proofs.Math.Seq.{drop-cons}
-use Rattle.std.proofs.lemmas.Option.{get_or_from_slice_get, slice_get_read, slice_get_within}
+use Rattle.std.proofs.lemmas.List.{get_or_default}
 use Rattle.cddl_token.specs.declared.Token.{Token}
 use Rattle.tree_nodes.specs.Syntax.Syntax as S
 use Rattle.tree_nodes.specs.declared.tree.Leaf.{Leaf}
-use Rattle.cddl_language.specs.Terms.{Text}
+use Rattle.cddl_language.specs.Faults.{HasSite, Specification}
 use Rattle.cddl_language.specs.Reading.{rules_of}
 use Rattle.cddl_language.specs.Sites.{Site, sites}
-use Rattle.cddl_language.specs.Faults.{HasSite, Specification}
+use Rattle.cddl_language.specs.Terms.{Text}
+use Rattle.check_terms.specs.Table.{Table}
 use Rattle.check_sites.specs.declared.sites.site.Found.{Found}
 use Rattle.check_sites.specs.Sites.Listed.{StandsIn, WasFound}
 use Rattle.check_sites.specs.Sites.View.{view_found, view_site}
 use Rattle.check_sites.specs.Sites.Walk.{all_sites}
-use Rattle.lists.specs.Least.{IsLeast, lesser_of}
-use Rattle.check_text.specs.SiteFaults.Told.{Among, HaveRules, IsToldAt}
-use Rattle.lists.proofs.Lemmas.{same_least as alike, lesser_least as either}
+use Rattle.check_reading.specs.Words.{AreWords, HasWord, IsSaid, IsWordOf, Said, said_at}
+use Rattle.check_reading.specs.declared.words.word.Role.TheVariants as RoleV
+use Rattle.check_reading.specs.declared.words.word.Word.{Word}
+use Rattle.lists.specs.Least.{IsLeast}
+use Rattle.lists.proofs.Lemmas.{contains_at, one_of, place_of, same_least}
+use Rattle.all_offsets.specs.Offsets.{AreOf}
+use Rattle.all_offsets.proofs.Lemmas.{IsOne, same_of}
+use Rattle.check_text.specs.SiteFaults.Told.{Among, AreSpoken, IsToldAt}
 
-module _ {X : Type 0} where
-  pub contained : (xs : List X) (k : ℕ) (x : X) → slice_get xs k ≡ Some x → Contains xs x
-  contained xs k x e = (k, slice_get_within xs k x e, get_or_from_slice_get xs k x x e)
+-- what a word past the end of a list is
+abbrev pub no_word : Word
+no_word = record { rule = 0; at = 0; role = RoleV.Name false; text = 0; arguments = 0 }
 
-  pub place_of : (xs : List X) (x : X) → Contains xs x → (k : ℕ) × (slice_get xs k ≡ Some x)
-  place_of xs x h = (h.0, slice_get_read xs (length xs) h.0 x refl h.1 (sym h.2))
+pub word_is : (ws : List Word) (i : ℕ) → i < length ws → get_or ws i no_word ≡ get_or ws i (get_or ws i no_word)
+word_is ws i l = get_or_default ws i no_word (get_or ws i no_word) l
 
-  pub one_of : (o : Option X) (x y : X) → o ≡ Some x → o ≡ Some y → x ≡ y
-  one_of o x y e f = cc
+-- told at this offset alone, where B holds
+pub told_here : (B : Type 0) (start : ℕ) → B → IsLeast (λ at. B × (at ≡ start)) (Some start)
+told_here B start b = ((b, refl), λ p h. subst (λ q. start ≤ q) (sym h.1) (le_refl start))
 
-  none_in : (y : X) → Contains [] y → ⊥
-  none_in y h = let lt : h.0 < 0 = h.1 in omega arith
+pub told_nowhere : (B : Type 0) (start : ℕ) → (B → ⊥) → IsLeast (λ at. B × (at ≡ start)) None
+told_nowhere B start b = λ p h. b h.0
 
-  at_first : (x y : X) (xs : List X) → x ≡ y → Contains (x ∷ xs) y
-  at_first x y xs e = (0, omega arith, e)
+-- A word says one thing.
+pub one_said : (t : Table) (w : Word) (x y : Said) → IsSaid t w x → IsSaid t w y → x ≡ y
+one_said t w x y h k = λ i. record {
+  at = (sym h.at ∙ k.at) i;
+  role = (sym h.role ∙ k.role) i;
+  text = one_of (slice_get t.texts w.text) x.text y.text h.text k.text i;
+  arguments = (sym h.arguments ∙ k.arguments) i;
+}
 
-  later : (x y : X) (xs : List X) → Contains xs y → Contains (x ∷ xs) y
-  later x y xs h = let lt : h.0 < length xs = h.1 in (suc h.0, omega arith, h.2)
+-- what is told of a word of a rule that says this
+module _ (t : Table) (rs : List S.Rule) (P : S.Rule → Said → ℕ → Type 0) (w : Word) (r : S.Rule) (x : Said) (place : slice_get rs w.rule ≡ Some r) (is : IsSaid t w x) where
+  pub at_word : (p : ℕ) → P r x p → IsToldAt t rs P w p
+  at_word p k = record { rule = r; said = x; place = place; is = is; told = k }
 
-  first_or_later_at : (x : X) (xs : List X) (y : X) (n : ℕ) → n < length (x ∷ xs) → get_or (x ∷ xs) n y ≡ y → (x ≡ y) ⊎ Contains xs y
-  first_or_later_at x xs y zero lt e = inl e
-  first_or_later_at x xs y (suc n) lt e = inr (n, omega arith, e)
+  pub of_word : (p : ℕ) → IsToldAt t rs P w p → P r x p
+  of_word p k = subst (λ q. P q x p) (one_of (slice_get rs w.rule) k.rule r k.place place) (subst (λ y. P k.rule y p) (one_said t w k.said x k.is is) k.told)
 
-  first_or_later : (x : X) (xs : List X) (y : X) → Contains (x ∷ xs) y → (x ≡ y) ⊎ Contains xs y
-  first_or_later x xs y h = first_or_later_at x xs y h.0 h.1 h.2
+  pub least_of_word : (o : Option ℕ) → IsLeast (P r x) o → IsLeast (IsToldAt t rs P w) o
+  least_of_word o h = same_least (P r x) (IsToldAt t rs P w) at_word of_word o h
 
-  pub next_drop : (xs : List X) (i : ℕ) (x : X) → i < length xs → x ≡ get_or xs i x → drop i xs ≡ x ∷ drop (i + 1) xs
-  next_drop xs i x h e = drop-cons xs i x h ∙ ap (λ (y : X). y ∷ drop (suc i) xs) (sym e) ∙ ap (λ j. x ∷ drop j xs) step
-    where
-      step : suc i ≡ i + 1
-      step = omega arith
+  pub one_of_word : IsOne (P r x) → IsOne (IsToldAt t rs P w)
+  one_of_word one p q h k = one p q (of_word p h) (of_word q k)
 
-further : (a b c : Option ℕ) → lesser_of (lesser_of a b) c ≡ lesser_of a (lesser_of b c)
-further None b c = refl
-further (Some a) None c = refl
-further (Some a) (Some b) None = refl
-further (Some a) (Some b) (Some c) = ap Some (omega arith)
-
-with_none : (a : Option ℕ) → lesser_of a None ≡ a
-with_none None = refl
-with_none (Some a) = refl
-
--- it is told at a site anywhere in the text
-pub record IsTold (s : Specification) (P : S.Rule → Site → ℕ → Type 0) (at : ℕ) : Type 0 where
+-- it is told of a word at a site anywhere in the text
+pub record IsTold (s : Specification) (P : S.Rule → Said → ℕ → Type 0) (at : ℕ) : Type 0 where
   pub rule : S.Rule
   pub site : Site
+  pub said : Said
   pub found : HasSite s rule site
-  pub told : P rule site at
+  pub there : said_at site ≡ Some said
+  pub told : P rule said at
 
--- What is so far the least, with the least in the rest of the sites, gives the least in all.
-pub record Goes (read : Leaf → Token) (rs : List S.Rule) (P : S.Rule → Site → ℕ → Type 0) (all rest : List Found) (least : Option ℕ) : Type 0 where
-  pub go : (o : Option ℕ) → IsLeast (Among read rs P rest) o → IsLeast (Among read rs P all) (lesser_of least o)
+-- the laws of sites and of their words
 
--- the law of sites
 abbrev pub FoundStand : Type 0
 FoundStand = (read : Leaf → Token) (rs : List S.Rule) (fs : List Found) → map (view_found read) fs ≡ all_sites rs → (f : Found) → Contains fs f → StandsIn sites read rs f
 
 abbrev pub AllFound : Type 0
 AllFound = (read : Leaf → Token) (rs : List S.Rule) (fs : List Found) → map (view_found read) fs ≡ all_sites rs → (k : ℕ) (r : S.Rule) (p : Site) → slice_get rs k ≡ Some r → Contains (sites r) p → WasFound read fs k p
 
-module _ (read : Leaf → Token) (rs : List S.Rule) (P : S.Rule → Site → ℕ → Type 0) where
-  pub begins : (all : List Found) → Goes read rs P all all None
-  begins all = record { go = λ o h. h }
+abbrev pub WordsStand : Type 0
+WordsStand = (t : Table) (read : Leaf → Token) (fs : List Found) (ws : List Word) → AreWords t ws (map (view_found read) fs) → (w : Word) → Contains ws w → (f : Found) × (Contains fs f × IsWordOf t w (view_found read f))
 
-  at_one : (f : Found) (r : S.Rule) (a : Option ℕ) → slice_get rs f.rule ≡ Some r → IsLeast (P r (view_site read f.site)) a → IsLeast (IsToldAt read rs P f) a
-  at_one f r a e h = alike (P r (view_site read f.site)) (IsToldAt read rs P f) to from a h
-    where
-      to : (p : ℕ) → P r (view_site read f.site) p → IsToldAt read rs P f p
-      to p k = record { rule = r; place = e; told = k }
+abbrev pub AllWords : Type 0
+AllWords = (t : Table) (read : Leaf → Token) (fs : List Found) (ws : List Word) → AreWords t ws (map (view_found read) fs) → (f : Found) (x : Said) → Contains fs f → said_at (view_site read f.site) ≡ Some x → HasWord t ws f.rule x
 
-      from : (p : ℕ) → IsToldAt read rs P f p → P r (view_site read f.site) p
-      from p k = subst (λ q. P q (view_site read f.site) p) (one_of (slice_get rs f.rule) k.rule r k.place e) k.told
+module _ (stand : FoundStand) (every : AllFound) (words_stand : WordsStand) (all_words : AllWords) (t : Table) (read : Leaf → Token) (tree : S.Cddl) (fs : List Found) (same : map (view_found read) fs ≡ all_sites (rules_of tree)) (ws : List Word) (are : AreWords t ws (map (view_found read) fs)) where
+  pub spoken : AreSpoken t (rules_of tree) ws
+  spoken w c =
+      let f = words_stand t read fs ws are w c in
+      let it = stand read (rules_of tree) fs same f.0 f.1.0 in
+      record { rule = it.rule; said = f.1.1.said; place = subst (λ k. slice_get (rules_of tree) k ≡ Some it.rule) (sym f.1.1.rule) it.place; is = f.1.1.is }
 
-  first_or_further : (f : Found) (more : List Found) (a o : Option ℕ) → IsLeast (IsToldAt read rs P f) a → IsLeast (Among read rs P more) o → IsLeast (Among read rs P (f ∷ more)) (lesser_of a o)
-  first_or_further f more a o h k = alike (λ p. IsToldAt read rs P f p ⊎ Among read rs P more p) (Among read rs P (f ∷ more)) to from (lesser_of a o) (either (IsToldAt read rs P f) (Among read rs P more) a o h k)
-    where
-      to : (p : ℕ) → IsToldAt read rs P f p ⊎ Among read rs P more p → Among read rs P (f ∷ more) p
-      to p (inl x) = record { one = f; present = at_first f f more refl; told = x }
-      to p (inr x) = record { one = x.one; present = later f x.one more x.present; told = x.told }
+  module _ (P : S.Rule → Said → ℕ → Type 0) where
+    told_there : (given : Option Text) (p : ℕ) → Among t (rules_of tree) P ws p → IsTold (record { tree = tree; given = given }) P p
+    told_there given p k =
+        let f = words_stand t read fs ws are k.one k.present in
+        let it = stand read (rules_of tree) fs same f.0 f.1.0 in
+        let rule = one_of (slice_get (rules_of tree) k.one.rule) it.rule k.told.rule (subst (λ n. slice_get (rules_of tree) n ≡ Some it.rule) (sym f.1.1.rule) it.place) k.told.place in
+        record {
+          rule = k.told.rule;
+          site = view_site read f.0.site;
+          said = f.1.1.said;
+          found = record {
+            rule = contains_at (rules_of tree) k.one.rule k.told.rule k.told.place;
+            site = subst (λ (r : S.Rule). Contains (sites r) (view_site read f.0.site)) rule it.contained;
+          };
+          there = f.1.1.there;
+          told = subst (λ x. P k.told.rule x p) (one_said t k.one k.told.said f.1.1.said k.told.is f.1.1.is) k.told.told;
+        }
 
-      from : (p : ℕ) → Among read rs P (f ∷ more) p → IsToldAt read rs P f p ⊎ Among read rs P more p
-      from p x = by (first_or_later f more x.one x.present)
-        where
-          by : (f ≡ x.one) ⊎ Contains more x.one → IsToldAt read rs P f p ⊎ Among read rs P more p
-          by (inl e) = inl (subst (λ y. IsToldAt read rs P y p) (sym e) x.told)
-          by (inr g) = inr (record { one = x.one; present = g; told = x.told })
+    there_told : (given : Option Text) (p : ℕ) → IsTold (record { tree = tree; given = given }) P p → Among t (rules_of tree) P ws p
+    there_told given p k =
+        let place = place_of (rules_of tree) k.rule k.found.rule in
+        let it = every read (rules_of tree) fs same place.0 k.rule k.site place.1 k.found.site in
+        let word = all_words t read fs ws are it.found k.said it.contained (ap said_at it.same ∙ k.there) in
+        record {
+          one = word.word;
+          present = word.present;
+          told = record {
+            rule = k.rule;
+            said = k.said;
+            place = subst (λ n. slice_get (rules_of tree) n ≡ Some k.rule) (sym (word.rule ∙ it.place)) place.1;
+            is = word.is;
+            told = k.told;
+          };
+        }
 
-  pub goes_on : (all rest more : List Found) (f : Found) (r : S.Rule) (least a new : Option ℕ) → rest ≡ f ∷ more → slice_get rs f.rule ≡ Some r → IsLeast (P r (view_site read f.site)) a → new ≡ lesser_of least a → Goes read rs P all rest least → Goes read rs P all more new
-  goes_on all rest more f r least a new e place h n g = record {
-    go = λ o k. subst (IsLeast (Among read rs P all)) (sym (ap (λ x. lesser_of x o) n ∙ further least a o)) (g.go (lesser_of a o) (subst (λ fs. IsLeast (Among read rs P fs) (lesser_of a o)) (sym e) (first_or_further f more a o (at_one f r a place h) k)));
-  }
+    in_tree : (s : Specification) → s.tree ≡ tree → (p : ℕ) → Among t (rules_of tree) P ws p → IsTold s P p
+    in_tree s e p k = subst (λ (x : S.Cddl). IsTold (record { tree = x; given = s.given }) P p) (sym e) (told_there s.given p k)
 
-  pub ends : (all rest : List Found) (least : Option ℕ) → rest ≡ [] → Goes read rs P all rest least → IsLeast (Among read rs P all) least
-  ends all rest least e g = subst (IsLeast (Among read rs P all)) (with_none least) (g.go None (subst (λ fs. (p : ℕ) → Among read rs P fs p → ⊥) (sym e) none))
-    where
-      none : (p : ℕ) → Among read rs P [] p → ⊥
-      none p h = none_in h.one h.present
+    of_tree : (s : Specification) → s.tree ≡ tree → (p : ℕ) → IsTold s P p → Among t (rules_of tree) P ws p
+    of_tree s e p k = there_told s.given p (subst (λ (x : S.Cddl). IsTold (record { tree = x; given = s.given }) P p) e k)
 
--- one step of a loop over such sites, and its end
-module _ (read : Leaf → Token) (rs : List S.Rule) (P : S.Rule → Site → ℕ → Type 0) where
-  pub steps_among : (all : List Found) (i : ℕ) (f : Found) (least a new : Option ℕ) → HaveRules rs all → i < length all → f ≡ get_or all i f → ((r : S.Rule) → slice_get rs f.rule ≡ Some r → IsLeast (P r (view_site read f.site)) a) → new ≡ lesser_of least a → Goes read rs P all (drop i all) least → Goes read rs P all (drop (i + 1) all) new
-  steps_among all i f least a new e l is h n g =
-      let it = e f (i, l, sym is) in
-      goes_on read rs P all (drop i all) (drop (i + 1) all) f it.0 least a new (next_drop all i f l is) it.1 (h it.0 it.1) n g
+    pub least_told : (s : Specification) → s.tree ≡ tree → (o : Option ℕ) → IsLeast (Among t (rules_of tree) P ws) o → IsLeast (IsTold s P) o
+    least_told s e o h = same_least (Among t (rules_of tree) P ws) (IsTold s P) (in_tree s e) (of_tree s e) o h
 
-  pub finished_among : (all : List Found) (i : ℕ) (least : Option ℕ) → length all ≤ i → Goes read rs P all (drop i all) least → IsLeast (Among read rs P all) least
-  finished_among all i least l g = ends read rs P all (drop i all) least (drop_of_length-le all l) g
-
--- The sites that were found are those of the text.
-module _ (stand : FoundStand) (every : AllFound) (read : Leaf → Token) (tree : S.Cddl) (P : S.Rule → Site → ℕ → Type 0) where
-  pub told_there : (given : Option Text) (fs : List Found) → map (view_found read) fs ≡ all_sites (rules_of tree) → (p : ℕ) → Among read (rules_of tree) P fs p → IsTold (record { tree = tree; given = given }) P p
-  told_there given fs e p k =
-      let it = stand read (rules_of tree) fs e k.one k.present in
-      let same = one_of (slice_get (rules_of tree) k.one.rule) it.rule k.told.rule it.place k.told.place in
-      record {
-        rule = k.told.rule;
-        site = view_site read k.one.site;
-        found = record {
-          rule = contained (rules_of tree) k.one.rule k.told.rule k.told.place;
-          site = subst (λ (r : S.Rule). Contains (sites r) (view_site read k.one.site)) same it.contained;
-        };
-        told = k.told.told;
-      }
-
-  pub there_told : (given : Option Text) (fs : List Found) → map (view_found read) fs ≡ all_sites (rules_of tree) → (p : ℕ) → IsTold (record { tree = tree; given = given }) P p → Among read (rules_of tree) P fs p
-  there_told given fs e p k =
-      let place = place_of (rules_of tree) k.rule k.found.rule in
-      let it = every read (rules_of tree) fs e place.0 k.rule k.site place.1 k.found.site in
-      record {
-        one = it.found;
-        present = it.contained;
-        told = record {
-          rule = k.rule;
-          place = subst (λ n. slice_get (rules_of tree) n ≡ Some k.rule) (sym it.place) place.1;
-          told = subst (λ q. P k.rule q p) (sym it.same) k.told;
-        };
-      }
-
-  told_in : (given : Option Text) (fs : List Found) → map (view_found read) fs ≡ all_sites (rules_of tree) → (o : Option ℕ) → IsLeast (Among read (rules_of tree) P fs) o → IsLeast (IsTold (record { tree = tree; given = given }) P) o
-  told_in given fs e o h = alike (Among read (rules_of tree) P fs) (IsTold (record { tree = tree; given = given }) P) (told_there given fs e) (there_told given fs e) o h
-
-  pub told : (s : Specification) → s.tree ≡ tree → (fs : List Found) → map (view_found read) fs ≡ all_sites (rules_of tree) → (o : Option ℕ) → IsLeast (Among read (rules_of tree) P fs) o → IsLeast (IsTold s P) o
-  told s e fs f o h = subst (λ (t : S.Cddl). IsLeast (IsTold (record { tree = t; given = s.given }) P) o) (sym e) (told_in s.given fs f o h)
-
--- one step of a loop over all sites, and its end
-module _ (stand : FoundStand) (read : Leaf → Token) (rs : List S.Rule) (P : S.Rule → Site → ℕ → Type 0) where
-  pub steps : (all : List Found) (i : ℕ) (f : Found) (least a new : Option ℕ) → map (view_found read) all ≡ all_sites rs → i < length all → f ≡ get_or all i f → ((r : S.Rule) → slice_get rs f.rule ≡ Some r → IsLeast (P r (view_site read f.site)) a) → new ≡ lesser_of least a → Goes read rs P all (drop i all) least → Goes read rs P all (drop (i + 1) all) new
-  steps all i f least a new e l is h n g =
-      let it = stand read rs all e f (i, l, sym is) in
-      goes_on read rs P all (drop i all) (drop (i + 1) all) f it.rule least a new (next_drop all i f l is) it.place (h it.rule it.place) n g
-
-module _ (stand : FoundStand) (every : AllFound) (read : Leaf → Token) (tree : S.Cddl) (P : S.Rule → Site → ℕ → Type 0) where
-  pub finished : (s : Specification) → s.tree ≡ tree → (all : List Found) (i : ℕ) (least : Option ℕ) → map (view_found read) all ≡ all_sites (rules_of tree) → length all ≤ i → Goes read (rules_of tree) P all (drop i all) least → IsLeast (IsTold s P) least
-  finished s e all i least f l g = told stand every read tree P s e all f least (ends read (rules_of tree) P all (drop i all) least (drop_of_length-le all l) g)
+    pub all_told : (s : Specification) → s.tree ≡ tree → (offsets : List ℕ) → AreOf (Among t (rules_of tree) P ws) offsets → AreOf (IsTold s P) offsets
+    all_told s e offsets h = same_of (Among t (rules_of tree) P ws) (IsTold s P) offsets (in_tree s e) (of_tree s e) h

@@ -4,13 +4,9 @@ use Rattle.std.specs.List.{list_any}
 use Rattle.check_terms.specs.declared.definition.Definition.{Definition}
 use Rattle.check_text.specs.declared.site_faults.marks.Mark.{Mark}
 
--- the rule at this place has the parameter of this number
+-- the rule at this index has the parameter of this number
 abbrev pub has_mark : List Mark → ℕ → ℕ → Bool
 has_mark ms rule k = list_any (λ m. nat_eq rule m.rule && nat_eq k m.name) ms
-
-abbrev pub is_marked : List Mark → ℕ → Option ℕ → Bool
-is_marked ms rule None = false
-is_marked ms rule (Some k) = has_mark ms rule k
 
 abbrev pub is_among : ℕ → List ℕ → Bool
 is_among k ps = list_any (nat_eq k) ps
@@ -19,7 +15,7 @@ abbrev pub is_parameter_of : Option Definition → ℕ → Bool
 is_parameter_of None k = false
 is_parameter_of (Some d) k = is_among k d.parameters.items
 
--- the marks are of the definitions at the places of their rules
+-- the marks are of the definitions of the rules at their indexes
 abbrev pub AreMarks : List Definition → List Mark → Type 0
 AreMarks ds ms = (rule k : ℕ) → has_mark ms rule k ≡ is_parameter_of (slice_get ds rule) k
 

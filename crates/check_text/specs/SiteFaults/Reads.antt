@@ -1,5 +1,5 @@
--- What is known where a name is looked at.
-use Rattle.std.specs.Prelude.{◌≤◌, List, length}
+-- What is known where a word is looked at.
+use Rattle.std.specs.Prelude.{List}
 use Rattle.tree_nodes.specs.declared.tree.Tree.{Tree}
 use Rattle.check_terms.specs.Table.{Table}
 use Rattle.check_reading.specs.Survey.Survey.{IsSurvey}
@@ -9,5 +9,4 @@ use Rattle.check_text.specs.declared.site_faults.marks.Mark.{Mark}
 
 pub record IsRead (t : Table) (tree : Tree) (s : Survey) (ms : List Mark) : Type 0 where
   pub survey : IsSurvey t tree s
-  pub few : length t.texts ≤ 4294967296
   pub marked : AreMarks s.definitions.items ms

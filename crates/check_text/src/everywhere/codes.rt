@@ -7,16 +7,17 @@ ghost use Rattle.check_reading.specs.Survey.Survey.{IsSurvey};
 ghost use Rattle.check_text.specs.Everywhere.Codes.{code_of};
 ghost use Rattle.all_offsets.specs.Offsets.{AreOf, AreOffsets};
 ghost use Rattle.tree_nodes.specs.View.{view};
+ghost use Rattle.tree_nodes.specs.declared.tree.Tree.{Tree};
 
 use crate::everywhere::rules::{RuleCode, at_rules};
-use crate::everywhere::sites::{SiteCode, at_sites};
+use crate::everywhere::sites::at_sites;
 use crate::rule_faults::{bad_root, no_root};
+use crate::site_faults::SiteCode;
 use all_offsets::{found_alone, sort};
 use cddl_token::Code;
 use check_reading::survey::Survey;
 use check_terms::Terms;
 use std::alloc::{AllocError, Global};
-use tree_nodes::Tree;
 
 /// A code that is told of the whole text, whatever its root reaches.
 #[derive(Clone, Copy, Debug, PartialEq, Eq)]
@@ -74,19 +75,17 @@ pub fn code_of(code: TextCode) -> Code
 /// All offsets at which this code stands in the text, in ascending order, each once. The root is the given name, or the first
 /// rule's.
 ///
-/// It takes a time of n log n for a text of n bytes. An error comes only where memory is refused, or where the table has more
-/// texts than there are numbers of 32 bits.
+/// It takes a time of n log n for a text of n bytes. An error comes only where memory is refused.
 pub fn offsets_of(
     alloc: Global,
     terms: &Terms<'_>,
-    tree: &Tree<'_>,
-    survey: &Survey<'_>,
+    survey: &Survey,
     given: Option<&str>,
     code: TextCode,
 ) -> Result<Vec<usize>, AllocError>
-    ensures { IfOk result (λ v. (s : Specification) (worth : Values) → s.tree ≡ view tree.now → s.given ≡ option_map (λ t. t.now) given.entry → IsSurvey terms.now tree.now survey.now → AreOffsets (IsFaultAt s worth (code_of code)) v.items) }
+    ensures { IfOk result (λ v. (s : Specification) (worth : Values) (tree : Tree) → s.tree ≡ view tree → s.given ≡ option_map (λ t. t.now) given.entry → IsSurvey terms.now tree survey.now → AreOffsets (IsFaultAt s worth (code_of code)) v.items) }
 {
-    let mut offsets = found_offsets(alloc, terms, tree, survey, given, code)?;
+    let mut offsets = found_offsets(alloc, terms, survey, given, code)?;
     sort(&mut offsets);
     Ok(offsets)
 }
@@ -95,25 +94,22 @@ pub fn offsets_of(
 fn found_offsets(
     alloc: Global,
     terms: &Terms<'_>,
-    tree: &Tree<'_>,
-    survey: &Survey<'_>,
+    survey: &Survey,
     given: Option<&str>,
     code: TextCode,
 ) -> Result<Vec<usize>, AllocError>
-    ensures { IfOk result (λ v. (s : Specification) (worth : Values) → s.tree ≡ view tree.now → s.given ≡ option_map (λ t. t.now) given.entry → IsSurvey terms.now tree.now survey.now → AreOf (IsFaultAt s worth (code_of code)) v.items) }
+    ensures { IfOk result (λ v. (s : Specification) (worth : Values) (tree : Tree) → s.tree ≡ view tree → s.given ≡ option_map (λ t. t.now) given.entry → IsSurvey terms.now tree survey.now → AreOf (IsFaultAt s worth (code_of code)) v.items) }
 {
     match code {
         TextCode::Duplicate => at_rules(alloc, terms, survey, RuleCode::Duplicate),
         TextCode::KindClash => at_rules(alloc, terms, survey, RuleCode::KindClash),
-        TextCode::Undefined => at_sites(alloc, terms, tree, survey, SiteCode::Undefined),
-        TextCode::Arity => wrong_arities(alloc, terms, tree, survey),
+        TextCode::Undefined => at_sites(alloc, terms, survey, SiteCode::Undefined),
+        TextCode::Arity => wrong_arities(alloc, terms, survey),
         TextCode::NoRoot => found_alone(alloc, no_root(terms, survey, given)),
         TextCode::BadRoot => found_alone(alloc, bad_root(terms, survey, given)),
-        TextCode::GroupAsType => at_sites(alloc, terms, tree, survey, SiteCode::GroupAsType),
-        TextCode::HashForm => at_sites(alloc, terms, tree, survey, SiteCode::HashForm),
-        TextCode::UnknownControl => {
-            at_sites(alloc, terms, tree, survey, SiteCode::UnknownControl)
-        }
+        TextCode::GroupAsType => at_sites(alloc, terms, survey, SiteCode::GroupAsType),
+        TextCode::HashForm => at_sites(alloc, terms, survey, SiteCode::HashForm),
+        TextCode::UnknownControl => { at_sites(alloc, terms, survey, SiteCode::UnknownControl) }
     }
 }
 
@@ -121,13 +117,12 @@ fn found_offsets(
 fn wrong_arities(
     alloc: Global,
     terms: &Terms<'_>,
-    tree: &Tree<'_>,
-    survey: &Survey<'_>,
+    survey: &Survey,
 ) -> Result<Vec<usize>, AllocError>
-    ensures { IfOk result (λ v. (s : Specification) → s.tree ≡ view tree.now → IsSurvey terms.now tree.now survey.now → AreOf (HasWrongArity s) v.items) }
+    ensures { IfOk result (λ v. (s : Specification) (tree : Tree) → s.tree ≡ view tree → IsSurvey terms.now tree survey.now → AreOf (HasWrongArity s) v.items) }
 {
     let mut offsets = at_rules(alloc, terms, survey, RuleCode::Arity)?;
-    let at_names = at_sites(alloc, terms, tree, survey, SiteCode::Arity)?;
+    let at_names = at_sites(alloc, terms, survey, SiteCode::Arity)?;
     offsets.extend_from_slice(&at_names)?;
     Ok(offsets)
 }

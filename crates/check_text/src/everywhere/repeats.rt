@@ -23,7 +23,7 @@ pub(crate) fn push_duplicates(
     alloc: Global,
     offsets: &mut Vec<usize>,
     terms: &Terms<'_>,
-    survey: &Survey<'_>,
+    survey: &Survey,
     place: usize,
     start: usize,
 ) -> Result<(), AllocError>

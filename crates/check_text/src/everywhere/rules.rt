@@ -32,7 +32,7 @@ pub(crate) enum RuleCode {
 pub(crate) fn at_rules(
     alloc: Global,
     terms: &Terms<'_>,
-    survey: &Survey<'_>,
+    survey: &Survey,
     code: RuleCode,
 ) -> Result<Vec<usize>, AllocError>
     ensures { IfOk result (λ v. (s : Specification) (tree : Tree) → s.tree ≡ view tree → IsSurvey terms.now tree survey.now → AreOf (IsToldAtRules code s) v.items) }
@@ -49,7 +49,7 @@ fn push_told(
     alloc: Global,
     offsets: &mut Vec<usize>,
     terms: &Terms<'_>,
-    survey: &Survey<'_>,
+    survey: &Survey,
     place: usize,
     start: usize,
     code: RuleCode,

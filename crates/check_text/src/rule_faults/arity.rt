@@ -21,7 +21,7 @@ use lists::lesser;
 /// 3.10). A name of the prelude has none, and any other as many as its first definition.
 ///
 /// It takes a time in proportion to the number of rules.
-pub fn wrong_arity(terms: &Terms<'_>, survey: &Survey<'_>) -> Option<usize>
+pub fn wrong_arity(terms: &Terms<'_>, survey: &Survey) -> Option<usize>
     ensures { (s : Specification) (tree : Tree) → s.tree ≡ view tree → IsSurvey terms.now tree survey.now → IsLeast (HasWrongArityAtRule s) result }
 {
     let mut least = None;
@@ -32,7 +32,7 @@ pub fn wrong_arity(terms: &Terms<'_>, survey: &Survey<'_>) -> Option<usize>
 }
 
 // The offset of the rule at this place, if it has another number of parameters than its name.
-pub(crate) fn other_count(survey: &Survey<'_>, place: usize, start: usize) -> Option<usize>
+pub(crate) fn other_count(survey: &Survey, place: usize, start: usize) -> Option<usize>
     ensures { (t : Table) (tree : Tree) (r : Rule) → IsSurvey t tree survey.now → slice_get (rules_of (view tree)) place ≡ Some r → start ≡ name_at r → IsLeast (HasOtherCount (defined_in tree) r) result }
 {
     let definition = survey.definitions.get(place)?;
@@ -40,7 +40,7 @@ pub(crate) fn other_count(survey: &Survey<'_>, place: usize, start: usize) -> Op
 }
 
 // The offset of the rule of this definition, if that has another number of parameters than its name.
-fn arity_at(survey: &Survey<'_>, definition: &Definition, start: usize) -> Option<usize>
+fn arity_at(survey: &Survey, definition: &Definition, start: usize) -> Option<usize>
     ensures { result ≡ arity_at survey.now.definitions.items survey.now.names.items definition.now start }
 {
     let name = survey.names.get(definition.name as usize)?;

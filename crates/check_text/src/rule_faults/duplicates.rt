@@ -27,7 +27,7 @@ use std::alloc::{AllocError, Global};
 pub fn duplicate(
     alloc: Global,
     terms: &Terms<'_>,
-    survey: &Survey<'_>,
+    survey: &Survey,
 ) -> Result<Option<usize>, AllocError>
     ensures { IfOk result (λ o. (s : Specification) (tree : Tree) → s.tree ≡ view tree → IsSurvey terms.now tree survey.now → IsLeast (IsDuplicate s) o) }
 {
@@ -42,7 +42,7 @@ pub fn duplicate(
 fn duplicate_at(
     alloc: Global,
     terms: &Terms<'_>,
-    survey: &Survey<'_>,
+    survey: &Survey,
     place: usize,
     start: usize,
 ) -> Result<Option<usize>, AllocError>
@@ -60,11 +60,7 @@ fn duplicate_at(
 }
 
 // The offset of the rule, where its definition by `=` says something else than the first one of its name.
-pub(crate) fn other_equals(
-    survey: &Survey<'_>,
-    definition: &Definition,
-    start: usize,
-) -> Option<usize>
+pub(crate) fn other_equals(survey: &Survey, definition: &Definition, start: usize) -> Option<usize>
     ensures { result ≡ other_equals_by survey.now.definitions.items survey.now.names.items definition.now start }
 {
     let first = first_place(survey, definition.name);
@@ -73,7 +69,7 @@ pub(crate) fn other_equals(
 }
 
 // The place of the first definition by `=` of the name.
-fn first_place(survey: &Survey<'_>, name: u32) -> Option<usize>
+fn first_place(survey: &Survey, name: u32) -> Option<usize>
     ensures { result ≡ first_place (slice_get survey.now.names.items name) }
 {
     survey.names.get(name as usize)?.first_equals

@@ -19,7 +19,7 @@ use lists::lesser;
 /// 2.2.2 and 3.9).
 ///
 /// It takes a time in proportion to the text.
-pub fn kind_clash(terms: &Terms<'_>, survey: &Survey<'_>) -> Option<usize>
+pub fn kind_clash(terms: &Terms<'_>, survey: &Survey) -> Option<usize>
     ensures { (s : Specification) (tree : Tree) → s.tree ≡ view tree → IsSurvey terms.now tree survey.now → IsLeast (IsKindClash s) result }
 {
     let mut least = None;
@@ -32,7 +32,7 @@ pub fn kind_clash(terms: &Terms<'_>, survey: &Survey<'_>) -> Option<usize>
 // The offset of the rule at this place, if its definition is of another kind than its name.
 pub(crate) fn clash_at(
     terms: &Terms<'_>,
-    survey: &Survey<'_>,
+    survey: &Survey,
     place: usize,
     start: usize,
 ) -> Option<usize>

@@ -15,7 +15,7 @@ use check_terms::{Definition, Terms};
 /// The number of the root's name: of the name that was given, if it is defined, or of that of the first rule.
 ///
 /// It takes a time in proportion to the text.
-pub fn root_of(terms: &Terms<'_>, survey: &Survey<'_>, given: Option<&str>) -> Option<u32>
+pub fn root_of(terms: &Terms<'_>, survey: &Survey, given: Option<&str>) -> Option<u32>
     ensures number { result ≡ root_number terms.now.texts survey.now.known.items survey.now.definitions.items (option_map (λ t. t.now) given.entry) }
 {
     match given {
@@ -49,7 +49,7 @@ fn is_text(terms: &Terms<'_>, number: u32, name: &str) -> bool
 }
 
 /// 0, where there is no root: no rule and no given name, or a given name that nothing defines.
-pub fn no_root(terms: &Terms<'_>, survey: &Survey<'_>, given: Option<&str>) -> Option<usize>
+pub fn no_root(terms: &Terms<'_>, survey: &Survey, given: Option<&str>) -> Option<usize>
     ensures { (s : Specification) (tree : Tree) → s.tree ≡ view tree → s.given ≡ option_map (λ t. t.now) given.entry → IsSurvey terms.now tree survey.now → IsLeast (HasNoRoot s) result }
 {
     match root_of(terms, survey, given) {
@@ -59,7 +59,7 @@ pub fn no_root(terms: &Terms<'_>, survey: &Survey<'_>, given: Option<&str>) -> O
 }
 
 /// The offset of the first definition of the root's name, where the root is a group or has parameters.
-pub fn bad_root(terms: &Terms<'_>, survey: &Survey<'_>, given: Option<&str>) -> Option<usize>
+pub fn bad_root(terms: &Terms<'_>, survey: &Survey, given: Option<&str>) -> Option<usize>
     ensures { (s : Specification) (tree : Tree) → s.tree ≡ view tree → s.given ≡ option_map (λ t. t.now) given.entry → IsSurvey terms.now tree survey.now → IsLeast (HasBadRoot s) result }
 {
     match root_of(terms, survey, given) {
@@ -68,7 +68,7 @@ pub fn bad_root(terms: &Terms<'_>, survey: &Survey<'_>, given: Option<&str>) -> 
     }
 }
 
-fn bad_root_at(survey: &Survey<'_>, root: u32) -> Option<usize>
+fn bad_root_at(survey: &Survey, root: u32) -> Option<usize>
     ensures { result ≡ bad_at survey.now.kinds survey.now.definitions.items survey.now.starts.items root (slice_get survey.now.names.items root) }
 {
     let place = survey.names.get(root as usize)?.first?;

@@ -1,14 +1,12 @@
 //! Which names are parameters of which rules.
 
-ghost use Rattle.std.specs.Prelude.{◌≡◌, ◌≤◌, IfOk, length};
-ghost use Rattle.check_text.specs.SiteFaults.Marks.{AddsMark, AddsMarks, AreMarks, is_marked};
+ghost use Rattle.std.specs.Prelude.{◌≡◌, IfOk};
+ghost use Rattle.check_text.specs.SiteFaults.Marks.{AddsMark, AddsMarks, AreMarks, has_mark};
 
-use check_terms::{Definition, Terms};
+use check_reading::words::Word;
+use check_terms::Definition;
 use indexmap::IndexSet;
 use std::alloc::{AllocError, Global};
-
-/// How many numbers texts can have.
-const NUMBERS: usize = 4_294_967_296;
 
 /// A parameter: the place of its rule, and the number of its text.
 #[derive(Clone, Copy, Debug, PartialEq, Eq, Hash)]
@@ -17,22 +15,11 @@ pub(crate) struct Mark {
     pub(crate) name: u32,
 }
 
-// The parameters of all rules. Where texts have no number, this is an error, since a missing number says nothing there.
+// The parameters of all rules.
 pub(crate) fn marks_of(
     alloc: Global,
-    terms: &Terms<'_>,
     definitions: &[Definition],
 ) -> Result<IndexSet<Mark>, AllocError>
-    ensures few { IfOk result (λ v. length terms.now.texts ≤ 4294967296) }
-    ensures marked { IfOk result (λ v. AreMarks definitions.now v.keys) }
-{
-    if terms.text_count() > NUMBERS {
-        return Err(AllocError);
-    }
-    all_marks(alloc, definitions)
-}
-
-fn all_marks(alloc: Global, definitions: &[Definition]) -> Result<IndexSet<Mark>, AllocError>
     ensures { IfOk result (λ v. AreMarks definitions.now v.keys) }
 {
     let mut marks = IndexSet::new(alloc);
@@ -58,12 +45,12 @@ fn add_mark(marks: &mut IndexSet<Mark>, mark: Mark) -> Result<(), AllocError>
     Ok(())
 }
 
-// Whether the name of this number is a parameter of the rule at this place.
-pub(crate) fn is_marked(marks: &IndexSet<Mark>, rule: usize, number: Option<u32>) -> bool
-    ensures { result ≡ is_marked marks.now.keys rule number }
+// Whether the name is a parameter of its rule.
+pub(crate) fn is_marked(marks: &IndexSet<Mark>, word: Word) -> bool
+    ensures { result ≡ has_mark marks.now.keys word.rule word.text }
 {
-    match number {
-        Some(name) => marks.contains(&Mark { rule, name }),
-        None => false,
-    }
+    marks.contains(&Mark {
+        rule: word.rule,
+        name: word.text,
+    })
 }

@@ -10,7 +10,7 @@ returns-clause-none_early c s worth given =
 pub returns-clause-found : goal.returns-clause-found
 returns-clause-found c s worth given =
     let b = c.in_ok-reading.ensures.read s worth given in
-    c.in_ok-found.ensures.found s worth b.0 b.1 given.tree given.tokens given.right b.2
+    c.in_ok-found.ensures.found s worth c.args.tree.now b.0 b.1 given.tree given.tokens given.right b.2
 
 pub returns-in_err-reading-clause-early : goal.returns-in_err-reading-clause-early
 returns-in_err-reading-clause-early c = handed _ _ c.in_err-reading.field-0.0 c.from_residual.ensures.1 (λ s worth given. early_fault s worth c.in_err-reading.field-0.0 (c.in_err-reading.ensures.stopped s worth given) (c.in_err-reading.ensures.early s worth given))

@@ -2,15 +2,14 @@ use Rattle.std.proofs.Common.{sym, subst}
 use Rattle.std.proofs.lemmas.Result.{IfOk-weaker}
 use Rattle.cddl_language.specs.Faults.{rules}
 use Rattle.check_reached.specs.Asked.{AreAsked}
-use Rattle.check_reached.specs.Reached.{AreReachedSites}
-use Rattle.tree_nodes.specs.View.{token_of}
+use Rattle.check_reached.specs.Reached.{AreReachedWords}
 use Rattle.cddl_check.proofs.all_faults.ranges_of.Goals as goal
 
 pub returns : goal.returns
 returns c =
     IfOk-weaker c.all_bad_range.result _ _
-    (λ v h s worth root refs tree tokens right reading.
+    (λ v h s worth x root refs tokens right reading.
     let asked = subst (AreAsked (rules s) root c.args.terms.now) (sym c.deref.ensures.value) reading.asking.asked in
-    let reached = subst (AreReachedSites (rules s) root (token_of c.args.tree.now)) (sym c.deref-2.ensures.value) reading.rooted.reached in
-    h s root worth tree tokens right reading.right.clear reached reading.meant.literals asked)
+    let reached = subst (AreReachedWords (rules s) root c.args.terms.now) (sym c.deref-2.ensures.value) reading.rooted.reached in
+    h s root worth tokens right reading.right.clear reached reading.meant.literals asked)
     c.all_bad_range.ensures

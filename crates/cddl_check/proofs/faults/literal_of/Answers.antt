@@ -1,5 +1,5 @@
 use Rattle.std.proofs.Common.{sym, subst}
-use Rattle.cddl_language.specs.Faults.{definitions, rules}
+use Rattle.cddl_language.specs.Faults.{rules}
 use Rattle.check_reached.specs.Asked.{AreAsked}
 use Rattle.cddl_check.proofs.faults.literal_of.Goals as goal
 

@@ -1,10 +1,9 @@
-use Rattle.std.proofs.Common.{◌≡◌, ◌≤◌, length, sym, subst, refl, arith}
+use Rattle.std.proofs.Common.{length, sym, subst, arith}
 use Rattle.cddl_language.specs.Faults.{definitions}
 use Rattle.cddl_language.specs.Prelude.{prelude}
-use Rattle.cddl_language.specs.Reach.{most_instances}
 use Rattle.cddl_language.specs.Reading.{definitions_in, rules_of}
 use Rattle.check_names.specs.Environment.Names.{AreNames}
-use Rattle.check_instances.specs.Found.{AreFound, IsFound}
+use Rattle.check_instances.specs.Found.{AreFound}
 use Rattle.check_terms.specs.Definitions.{AreDefinitions}
 use Rattle.cddl_check.specs.Outcome.{IsStopped}
 use Rattle.cddl_check.proofs.Handing.{handed}

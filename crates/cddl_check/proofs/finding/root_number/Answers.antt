@@ -1,5 +1,4 @@
 use Rattle.std.proofs.Common.{◌∙◌, sym, subst}
-use Rattle.cddl_language.specs.Faults.{definitions}
 use Rattle.cddl_language.specs.Reading.{definitions_in, rules_of}
 use Rattle.check_terms.specs.Definitions.{AreDefinitions}
 use Rattle.cddl_check.proofs.Roots.{IsRoot, is_root}

@@ -1,4 +1,4 @@
-use Rattle.std.proofs.Common.{◌≡◌, List, ℕ, Option, Bor, refl, sym, subst, ◌∙◌}
+use Rattle.std.proofs.Common.{List, ℕ, Option, Bor, refl, sym, subst, ◌∙◌}
 use Rattle.std.specs.Option.{option_map}
 use Rattle.tree_nodes.specs.View.{view}
 use Rattle.cddl_language.specs.Literals.{AreRight, Values}
@@ -27,7 +27,7 @@ returns-clause-found c =
       rooted = first.2.rooted.rooted;
       accepted = λ worth right.
           let r = c.in_ok-reading.ensures.read s worth (given worth right) in
-          c.in_ok-ranks.ensures.accepted s worth r.0 r.1 refl c.requires right r.2;
+          c.in_ok-ranks.ensures.accepted s worth tree r.0 r.1 c.requires right r.2;
     } in (
       root,
       checked,
@@ -44,7 +44,7 @@ returns-clause-found c =
                 kinds = r.2.named.kinds;
                 meant = r.2.meant;
                 splices = r.2.splices;
-                ranked = c.in_ok-ranks.ensures.ranked s worth r.0 r.1 refl c.requires right r.2;
+                ranked = c.in_ok-ranks.ensures.ranked s worth tree r.0 r.1 c.requires right r.2;
               }),
             );
       }),
@@ -65,4 +65,4 @@ returns-in_err-ranks-clause-faulty c =
     let e = c.in_err-ranks.field-0.0 in
     handed (λ y. IsFaulty x n (refusal_of y)) _ e c.from_residual-in_err-ranks.ensures.1 (faulty x n e (λ worth right.
     let r = c.in_ok-reading.ensures.read s worth (record { tree = refl; given = refl; tokens = c.requires; right = right }) in
-    c.in_err-ranks.ensures.stopped s worth r.0 r.1 refl c.requires right r.2))
+    c.in_err-ranks.ensures.stopped s worth c.args.tree.now r.0 r.1 c.requires right r.2))

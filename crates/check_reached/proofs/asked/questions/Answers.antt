@@ -20,7 +20,7 @@ returns-clause-asked c = IfOk-weaker c.ask_all.result _ _ (λ v h tree s root re
     let t = c.args.terms.now in
     let read = token_of tree in
     let ds = c.deref.result.now in
-    let live = c.args.survey.now.live.items in
+    let live = is.live_sites in
     let laws : Laws = record { live = c.reached_sites.ensures.live; instance = c.reached_sites.ensures.instance; reached = c.reached_sites.ensures.reached } in
     let trees : Trees = record { term = c.filled_trees.ensures.term; reference = c.filled_trees.ensures.reference; entry = c.filled_trees.ensures.entry; group = c.filled_trees.ensures.group } in
     let defined = subst (λ x. AreDefinitions t ds (definitions_in (rules_of x))) (sym same) (subst (λ xs. AreDefinitions t xs (defined_in tree)) (sym c.deref.ensures.value) is.text_read) in

@@ -1,8 +1,7 @@
 use Rattle.std.proofs.Common.{refl, sym, subst}
 use Rattle.all_offsets.specs.Offsets.{AreOffsets, IsAmong}
-use Rattle.check_root.specs.RangeFaults.Bounds.{IsOverFound}
+use Rattle.check_root.specs.RangeFaults.Bounds.{IsOverWord}
 use Rattle.cddl_language.specs.Faults.{definitions}
-use Rattle.tree_nodes.specs.View.{token_of}
 use Rattle.check_root.proofs.OfRangeFaults.Bounding as Bounding
 use Rattle.check_root.proofs.OfRangeFaults.Ending as Ending
 use Rattle.check_root.proofs.OfRangeFaults.Ranges.{all_ranges}
@@ -11,7 +10,7 @@ use Rattle.check_root.proofs.OfRangeFaults.Whole.{OneTerm}
 use Rattle.check_root.proofs.range_faults.all_bad_range.Goals as goal
 
 pub returns : goal.returns
-returns c s root worth tree tokens right clear reached literals asked =
+returns c s root worth tokens right clear reached literals asked =
     let ends : Ending.Laws s worth root = record {
       first = c.reached_parts.ensures.first s root clear;
       last = c.reached_parts.ensures.last s root clear;
@@ -29,9 +28,8 @@ returns c s root worth tree tokens right clear reached literals asked =
       tokens = tokens;
       numbers = numbers;
     } in
-    let read = token_of c.args.tree.now in
     let t = c.args.terms.now in
     let one : OneTerm t = λ n a b h k. (c.equal_numbers.ensures.term n n a b h k).0 refl in
     let at_ends = c.in_ok-ends.ensures (definitions s) root worth literals (Ending.ends_there s worth root t ends c.args.asked.now asked) in
-    let at_bounds = subst (AreOffsets (IsAmong (IsOverFound read) c.args.reached.now)) (sym c.deref.ensures.value) (c.in_ok-bounds.ensures (Bounding.are_small s root bounds read c.args.reached.now reached)) in
-    all_ranges s worth root t ends bounds read c.args.asked.now c.args.reached.now asked reached one c.in_ok-ends.ends.items c.deref.result.now c.in_ok-both.both.items at_ends at_bounds c.in_ok-both.ensures.rising c.in_ok-both.ensures.each
+    let at_bounds = subst (AreOffsets (IsAmong (IsOverWord c.args.terms.now.texts) c.args.reached.now)) (sym c.deref.ensures.value) (c.in_ok-bounds.ensures (Bounding.are_small s root bounds c.args.terms.now c.args.reached.now reached)) in
+    all_ranges s worth root t ends bounds c.args.asked.now c.args.reached.now asked reached one c.in_ok-ends.ends.items c.deref.result.now c.in_ok-both.both.items at_ends at_bounds c.in_ok-both.ensures.rising c.in_ok-both.ensures.each

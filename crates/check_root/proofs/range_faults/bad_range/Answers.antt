@@ -1,7 +1,6 @@
 use Rattle.std.proofs.Common.{refl, sym, subst}
 use Rattle.cddl_language.specs.Faults.{HasBadRange, definitions}
 use Rattle.lists.specs.Least.{IsLeast}
-use Rattle.tree_nodes.specs.View.{token_of}
 use Rattle.check_root.proofs.OfRangeFaults.Bounding as Bounding
 use Rattle.check_root.proofs.OfRangeFaults.Ending as Ending
 use Rattle.check_root.proofs.OfRangeFaults.Ranges.{least_range}
@@ -10,7 +9,7 @@ use Rattle.check_root.proofs.OfRangeFaults.Whole.{OneTerm}
 use Rattle.check_root.proofs.range_faults.bad_range.Goals as goal
 
 pub returns : goal.returns
-returns c s root worth tree tokens right clear reached literals asked =
+returns c s root worth tokens right clear reached literals asked =
     let ends : Ending.Laws s worth root = record {
       first = c.reached_parts.ensures.first s root clear;
       last = c.reached_parts.ensures.last s root clear;
@@ -28,7 +27,6 @@ returns c s root worth tree tokens right clear reached literals asked =
       tokens = tokens;
       numbers = numbers;
     } in
-    let read = token_of c.args.tree.now in
     let t = c.args.terms.now in
     let one : OneTerm t = λ n a b h k. (c.equal_numbers.ensures.term n n a b h k).0 refl in
-    subst (IsLeast (HasBadRange s worth root)) (sym c.lesser.ensures) (least_range s worth root t ends bounds read c.args.asked.now c.args.reached.now asked reached one _ _ (c.bad_end-end.ensures (definitions s) root worth literals (Ending.ends_there s worth root t ends c.args.asked.now asked)) (c.bad_bounds.ensures (Bounding.are_small s root bounds read c.args.reached.now reached)))
+    subst (IsLeast (HasBadRange s worth root)) (sym c.lesser.ensures) (least_range s worth root t ends bounds c.args.asked.now c.args.reached.now asked reached one _ _ (c.bad_end-end.ensures (definitions s) root worth literals (Ending.ends_there s worth root t ends c.args.asked.now asked)) (c.bad_bounds.ensures (Bounding.are_small s root bounds c.args.terms.now c.args.reached.now reached)))

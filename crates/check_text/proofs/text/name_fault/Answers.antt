@@ -6,4 +6,4 @@ use Rattle.check_text.proofs.Firsts.{joined}
 use Rattle.check_text.proofs.text.name_fault.Goals as goal
 
 pub returns : goal.returns
-returns c s worth e is = subst (IsFirst (IsFaultAt s worth) (Undefined ∷ Arity ∷ [])) (sym c.first_of.ensures) (joined (IsFaultAt s worth) (Undefined ∷ []) (Arity ∷ []) _ _ (c.fault_of-undefined.ensures s worth (c.in_ok-undefined.ensures s e is)) (c.fault_of-arity.ensures s worth (c.in_ok-wrong_arity.ensures s e is)))
+returns c s worth tree e is = subst (IsFirst (IsFaultAt s worth) (Undefined ∷ Arity ∷ [])) (sym c.first_of.ensures) (joined (IsFaultAt s worth) (Undefined ∷ []) (Arity ∷ []) _ _ (c.fault_of-undefined.ensures s worth (c.in_ok-site_fault.ensures s tree e is)) (c.fault_of-arity.ensures s worth (c.in_ok-wrong_arity.ensures s tree e is)))

@@ -6,4 +6,4 @@ use Rattle.check_text.proofs.OfSiteFaults.Lemmas.{least_wrong_arity}
 use Rattle.check_text.proofs.text.wrong_arity.Goals as goal
 
 pub returns : goal.returns
-returns c s e is = subst (IsLeast (HasWrongArity s)) (sym c.lesser.ensures) (least_wrong_arity s (HasWrongArityAtRule s) (λ at r k h w d o. record { rule = r; count = k; present = h; counted = w; differs = d; offset = o }) (λ at h. by_rule h.present h.counted h.differs h.offset) _ _ (c.wrong_arity-at_rules.ensures s c.args.tree.now e is) (c.in_ok-at_names.ensures s e is))
+returns c s tree e is = subst (IsLeast (HasWrongArity s)) (sym c.lesser.ensures) (least_wrong_arity s (HasWrongArityAtRule s) (λ at r k h w d o. record { rule = r; count = k; present = h; counted = w; differs = d; offset = o }) (λ at h. by_rule h.present h.counted h.differs h.offset) _ _ (c.wrong_arity-at_rules.ensures s tree e is) (c.in_ok-at_names.ensures s tree e is))

@@ -1,4 +1,4 @@
-use Rattle.std.proofs.Common.{◌≡◌, Some, sym, subst, ◌∙◌}
+use Rattle.std.proofs.Common.{sym, subst, ◌∙◌}
 use Rattle.cddl_check.specs.Spec.{IsSpec}
 use Rattle.cddl_check.proofs.Faulty.{same_root}
 use Rattle.cddl_check.proofs.spec.Spec.new.Goals as goal

@@ -1,9 +1,7 @@
 use Rattle.std.proofs.Common.{subst}
 use Rattle.std.proofs.lemmas.Result.{IfOk-weaker}
 use Rattle.std.specs.Prelude.{flat_map}
-use Rattle.cddl_language.specs.Reading.{rules_of}
-use Rattle.tree_nodes.specs.View.{token_of, view}
-use Rattle.check_sites.specs.Entries.Entries.{AreEntries}
+use Rattle.tree_nodes.specs.View.{token_of}
 use Rattle.check_reading.specs.Parts.{AreParts, of_entry}
 use Rattle.check_reading.proofs.parts.listing.entry_parts.Goals as goal
 

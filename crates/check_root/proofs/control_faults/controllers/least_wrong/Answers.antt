@@ -1,5 +1,5 @@
 use Rattle.check_reading.specs.declared.parts.part.Question.TheVariants as QuestionV
-use Rattle.check_root.proofs.OfRangeFaults.Lemmas.{finished, step_at}
+use Rattle.all_offsets.proofs.Lemmas.{finished, step_at}
 use Rattle.check_root.specs.ControlFaults.Controllers.{IsWrong}
 use Rattle.check_root.proofs.control_faults.controllers.least_wrong.Goals as goal
 

@@ -3,7 +3,7 @@ use Rattle.cddl_language.specs.Literals.{Values}
 use Rattle.cddl_language.specs.Terms as L
 use Rattle.cddl_language.specs.Terms.{Text}
 use Rattle.check_literals.specs.Literals.{AreLiterals}
-use Rattle.check_root.proofs.OfRangeFaults.Lemmas.{Goes}
+use Rattle.all_offsets.proofs.Lemmas.{Goes}
 use Rattle.check_root.specs.ControlFaults.Controllers.{AreFlags, AreThere, IsWrong}
 use Rattle.check_root.proofs.control_faults.controllers.least_wrong.Given as goal
 

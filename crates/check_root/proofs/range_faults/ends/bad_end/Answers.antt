@@ -1,6 +1,6 @@
 use Rattle.check_reading.specs.declared.parts.part.Question.TheVariants as QuestionV
 use Rattle.check_root.specs.RangeFaults.Ends.{IsBadEnd}
-use Rattle.check_root.proofs.OfRangeFaults.Telling.{finished, step_at}
+use Rattle.all_offsets.proofs.Lemmas.{finished, step_at}
 use Rattle.check_root.proofs.range_faults.ends.bad_end.Goals as goal
 
 pub loop-question-preserved : goal.loop-question-preserved

@@ -4,7 +4,7 @@ use Rattle.cddl_language.specs.Terms as L
 use Rattle.cddl_language.specs.Terms.{Text}
 use Rattle.check_literals.specs.Literals.{AreLiterals}
 use Rattle.check_root.specs.RangeFaults.Ends.{AreEnds, IsBadEnd}
-use Rattle.check_root.proofs.OfRangeFaults.Telling.{Goes}
+use Rattle.all_offsets.proofs.Lemmas.{Goes}
 use Rattle.check_root.proofs.range_faults.ends.bad_end.Given as goal
 
 abbrev pub invariant-loop-question : goal.invariant-loop-question

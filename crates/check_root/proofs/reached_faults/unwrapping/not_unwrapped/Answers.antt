@@ -3,17 +3,15 @@ use Rattle.std.proofs.lemmas.Result.{IfOk-weaker}
 use Rattle.tree_nodes.specs.Syntax.Syntax as S
 use Rattle.cddl_language.specs.Faults.{rules}
 use Rattle.cddl_language.specs.Reading.{definitions_in, rules_of}
-use Rattle.check_text.specs.SiteFaults.Openings.{IsOpenedWronglyAt}
-use Rattle.check_text.specs.SiteFaults.Told.{Among, HaveRules}
+use Rattle.check_text.specs.SiteFaults.Unwrapped.{IsWrongTilde}
+use Rattle.check_text.specs.SiteFaults.Told.{Among, AreSpoken}
 use Rattle.lists.specs.Least.{IsLeast}
-use Rattle.tree_nodes.specs.View.{token_of}
-use Rattle.check_root.proofs.OfReachedFaults.Tildes.{have_rules, least_tilde}
+use Rattle.check_root.proofs.OfReachedFaults.Tildes.{least_tilde, spoken}
 use Rattle.check_root.proofs.reached_faults.unwrapping.not_unwrapped.Goals as goal
 
 pub returns : goal.returns
-returns c = IfOk-weaker c.wrong_opening.result _ _ (λ o told s root e survey are.
-    let read = token_of c.args.tree.now in
-    let fs = c.args.reached.now in
+returns c = IfOk-weaker c.wrong_tilde.result _ _ (λ o told t tree s root e survey are.
+    let ws = c.args.reached.now in
     let instances = c.reached_sites.ensures.instance (rules s) root in
-    let have = subst (λ (x : S.Cddl). HaveRules (rules_of x) fs) e (have_rules s root instances read fs are) in
-    least_tilde s root instances read fs are o (subst (λ (x : S.Cddl). IsLeast (Among read (rules_of x) (IsOpenedWronglyAt (definitions_in (rules_of x))) fs) o) (sym e) (told survey have))) c.wrong_opening.ensures
+    let so = subst (λ (x : S.Cddl). AreSpoken t (rules_of x) ws) e (spoken s root instances t ws are) in
+    least_tilde s root instances t ws are o (subst (λ (x : S.Cddl). IsLeast (Among t (rules_of x) (IsWrongTilde (definitions_in (rules_of x))) ws) o) (sym e) (told t tree survey so))) c.wrong_tilde.ensures

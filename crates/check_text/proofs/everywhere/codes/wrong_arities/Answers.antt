@@ -5,6 +5,6 @@ use Rattle.check_text.proofs.OfEverywhere.OfRules.{wrong_arities}
 use Rattle.check_text.proofs.everywhere.codes.wrong_arities.Goals as goal
 
 pub returns : goal.returns
-returns c s e is =
+returns c s tree e is =
     let items = c.in_ok-extend_from_slice.ensures.items ∙ ap (λ ys. c.in_ok-offsets.offsets.items ++ ys) c.deref.ensures.value in
-    subst (AreOf (HasWrongArity s)) (sym items) (wrong_arities s _ _ (c.in_ok-offsets.ensures s c.args.tree.now e is) (c.in_ok-at_names.ensures s e is))
+    subst (AreOf (HasWrongArity s)) (sym items) (wrong_arities s _ _ (c.in_ok-offsets.ensures s tree e is) (c.in_ok-at_names.ensures s tree e is))

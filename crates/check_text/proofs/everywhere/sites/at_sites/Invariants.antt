@@ -1,12 +1,11 @@
-use Rattle.std.proofs.Common.{◌≡◌, drop, map}
 use Rattle.cddl_language.specs.Reading.{rules_of}
-use Rattle.check_sites.specs.Sites.View.{view_found}
-use Rattle.check_sites.specs.Sites.Walk.{all_sites}
 use Rattle.check_reading.specs.Survey.Survey.{IsSurvey, defined_in}
-use Rattle.tree_nodes.specs.View.{token_of, view}
-use Rattle.check_text.specs.Everywhere.Sites.{IsToldAtSite}
-use Rattle.check_text.proofs.OfEverywhere.Gathering.{Gathers}
+use Rattle.tree_nodes.specs.View.{view}
+use Rattle.tree_nodes.specs.declared.tree.Tree.{Tree}
+use Rattle.all_offsets.proofs.Lemmas.{Gathers}
+use Rattle.check_text.specs.SiteFaults.Told.{AreSpoken, IsToldAt}
+use Rattle.check_text.specs.SiteFaults.Words.{IsToldAtWord}
 use Rattle.check_text.proofs.everywhere.sites.at_sites.Given as goal
 
-abbrev pub invariant-loop-found : goal.invariant-loop-found
-invariant-loop-found l = IsSurvey l.terms l.tree l.survey → map (view_found (token_of l.tree)) l.found-items ≡ all_sites (rules_of (view l.tree)) → Gathers (token_of l.tree) (rules_of (view l.tree)) (IsToldAtSite l.code (defined_in l.tree)) l.found-items (drop l.found-index l.found-items) l.offsets.items
+abbrev pub invariant-loop-word : goal.invariant-loop-word
+invariant-loop-word l = (tree : Tree) → IsSurvey l.terms tree l.survey → AreSpoken l.terms (rules_of (view tree)) l.word-items → Gathers (λ k. IsToldAt l.terms (rules_of (view tree)) (IsToldAtWord l.code (defined_in tree))) l.word-items l.word-index l.offsets.items

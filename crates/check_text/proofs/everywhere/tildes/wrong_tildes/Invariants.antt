@@ -1,0 +1,12 @@
+use Rattle.cddl_language.specs.Reading.{rules_of}
+use Rattle.check_reading.specs.Survey.Survey.{IsSurvey, defined_in}
+use Rattle.check_terms.specs.Table.{Table}
+use Rattle.tree_nodes.specs.View.{view}
+use Rattle.tree_nodes.specs.declared.tree.Tree.{Tree}
+use Rattle.all_offsets.proofs.Lemmas.{Gathers}
+use Rattle.check_text.specs.SiteFaults.Told.{AreSpoken, IsToldAt}
+use Rattle.check_text.specs.SiteFaults.Unwrapped.{IsWrongTilde}
+use Rattle.check_text.proofs.everywhere.tildes.wrong_tildes.Given as goal
+
+abbrev pub invariant-loop-word : goal.invariant-loop-word
+invariant-loop-word l = (t : Table) (tree : Tree) → IsSurvey t tree l.survey → AreSpoken t (rules_of (view tree)) l.words → Gathers (λ k. IsToldAt t (rules_of (view tree)) (IsWrongTilde (defined_in tree))) l.words l.word-index l.offsets.items
