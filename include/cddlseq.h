@@ -317,7 +317,7 @@ uint32_t cddlseq_begin_by(
     struct cddlseq_session *session);
 
 /* Takes the next piece of the stream, up to the end of an item that it completes; 'used' says how many bytes of the piece are done
-   with, and those behind them are for the next call.
+   with, and those after them are for the next call.
 
    CDDLSEQ_ITEM: an item matches, whose last byte is the last one used. CDDLSEQ_OK: the whole piece is used, and completes none. The
    end has how many items match so far, and how many bytes these have, and no cause: so an item begins where the end before had its

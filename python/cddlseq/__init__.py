@@ -203,7 +203,7 @@ class _Item(NamedTuple):
 
 
 class Item(_Item):
-    """An item that matches: the offset in the stream of its first byte, and of the byte behind its last; and its bytes."""
+    """An item that matches: the offset in the stream of its first byte, and of the byte after its last; and its bytes."""
 
     _specification: Specification
 

@@ -85,7 +85,7 @@ def number_of(option: str, text: str) -> int:
 
 
 def option_of(command: str, word: str, left: Iterator[str], options: dict[str, str], names: list[str]) -> tuple[str, str]:
-    """An option, with its value: behind an equals sign, or the next of the words that are left."""
+    """An option, with its value: after an equals sign, or the next of the words that are left."""
     option, equals, value = word.partition("=")
     if option not in COMMANDS[command]:
         wrong = shown(option if option.startswith("--") else option[:2])

@@ -56,7 +56,7 @@ _CALLS = {
     "cddlseq_close": (_HANDLE,),
     "cddlseq_share": (_HANDLE, _HANDLE),
     "cddlseq_begin_by": (_HANDLE, _HANDLE),
-    # A piece is told by its address, so that what is behind an item in it is passed on without a copy.
+    # A piece is told by its address, so that what comes after an item in it is passed on without a copy.
     "cddlseq_feed": (_HANDLE, c_void_p, c_size_t, POINTER(c_size_t), POINTER(End)),
     "cddlseq_feed_all": (_HANDLE, *_BYTES, POINTER(End)),
     "cddlseq_finish": (_HANDLE, POINTER(End)),

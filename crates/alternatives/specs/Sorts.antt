@@ -1,4 +1,4 @@
--- The sorts of alternatives, by which it is told which occurrences a group may have.
+-- The sorts of alternatives, by which it is known which occurrences a group may have.
 use Rattle.std.specs.Prelude.{Bool, true, false, if◌then◌else◌, ◌||◌, not, List, [], ◌∷◌}
 use Rattle.std.specs.List.{list_all, list_any}
 use Rattle.alternatives.specs.declared.Member.{Member}

@@ -9,6 +9,7 @@ ghost use Rattle.alternatives.specs.Summaries.{AreSummaries};
 use crate::pieces::{empty_ones, entry_alone, occurring_ones, ways_beside};
 use crate::summary::{MOST_ALTERNATIVES, MOST_MEMBERS, Summary, summary_at};
 use crate::{Bounds, Member, Part};
+use rooms::Room;
 use std::alloc::{AllocError, Global};
 
 /// What is to be done for a list of alternatives.
@@ -45,17 +46,19 @@ pub fn builder_of(alloc: Global, number: usize, depth: usize) -> Result<Builder,
 }
 
 impl Builder {
-    /// Does all tasks, and says whether there is a list.
+    /// Does all tasks, and says whether there is a list. Each takes one of the room.
     pub fn run(
         &mut self,
         alloc: Global,
         parts: &[Part],
         summaries: &[Option<Summary>],
+        room: &mut Room,
     ) -> Result<bool, AllocError>
         ensures list { AreSummaries parts.now summaries.now → (all : Alternatives) → Yields parts.now (build self.old).tasks (build self.old).lists all → IfOk result (λ goes. goes ≡ true → (build self.new).lists ≡ all ∷ []) }
         ensures goes { AreSummaries parts.now summaries.now → (all : Alternatives) → Yields parts.now (build self.old).tasks (build self.old).lists all → AreReady parts.now (build self.old).tasks → IfOk result (λ goes. goes ≡ true) }
     {
         while let Some(task) = self.tasks.pop() {
+            room.take(1)?;
             if !self.step(alloc, parts, summaries, task)? {
                 return Ok(false);
             }

@@ -1,5 +1,5 @@
 //! What groups in maps stand for (RFC 8610 section 3.5): the alternatives of parts that are known by numbers, and what can be
-//! told of them before any is made.
+//! reported for them before any is made.
 #![tactic(auto)]
 
 mod build;
@@ -17,6 +17,7 @@ use crate::build::builder_of;
 use crate::search::first_search;
 pub use crate::summary::{MOST_ALTERNATIVES, MOST_MEMBERS, Sorts, Summary};
 use crate::summary::{is_refused, summary_at};
+use rooms::Room;
 use std::alloc::{AllocError, Global};
 
 /// How often at least and at most; None is without an end.
@@ -95,12 +96,15 @@ pub fn is_too_large(summary: Summary) -> bool
 /// The alternatives that the part stands for, by its summaries: None where it stands for nothing, and where it or a part that
 /// it needs has too many. A part that stands for no alternative needs no other.
 ///
-/// Nothing recurses, and no list is made that would be too large. An error comes only where memory is refused.
+/// Nothing recurses, and no list is made that would be too large. Each part that is gone through takes one of the room, and so does
+/// each that joins the lists of two, or lets one occur: parts without members are gone through too. An error comes only where
+/// memory is refused, or where the room is too small.
 pub fn alternatives(
     alloc: Global,
     parts: &[Part],
     summaries: &[Option<Summary>],
     number: usize,
+    room: &mut Room,
 ) -> Result<Option<Vec<Vec<Member>>>, AllocError>
     ensures right { AreSummaries parts.now summaries.now → IfOk result (λ o. IfSome o (λ v. HasAlternatives parts.now number (map vec_items v.items))) }
     ensures all { AreSummaries parts.now summaries.now → IsSmall parts.now number → IfOk result IsSome }
@@ -109,7 +113,7 @@ pub fn alternatives(
         return Ok(None);
     }
     let mut builder = builder_of(alloc, number, parts.len())?;
-    if !builder.run(alloc, parts, summaries)? {
+    if !builder.run(alloc, parts, summaries, room)? {
         return Ok(None);
     }
     Ok(builder.lists.pop())

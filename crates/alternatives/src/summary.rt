@@ -33,7 +33,7 @@ const NO_SORTS: Sorts = Sorts {
     other: false,
 };
 
-/// What is told of alternatives.
+/// What is reported for alternatives.
 #[derive(Clone, Copy)]
 pub struct Summary {
     /// How many there are, up to `MOST_MEMBERS`; one more where there are more.

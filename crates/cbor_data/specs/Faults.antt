@@ -97,7 +97,7 @@ abbrev mutual
       ⊎ ((HasText k × ((j : ℕ) × (i ≡ length (flat k) + j) × IsBadTextAt v j))
       ⊎ (HasText k × HasText v × ((j : ℕ) × (i ≡ length (flat k) + (length (flat v) + j)) × IsBadTextAmongPairs ps j)))
 
--- the first n bytes of b are well-formed and bounded, and nothing in them is wrong but what is told of the whole
+-- the first n bytes of b are well-formed and bounded, and nothing in them is wrong but what is reported for the whole
 pub record IsWholeFront (l : Bounds) (o : ℕ) (b : List ℕ) (n : ℕ) (f : Form) : Type 0 where
   pub within : n ≤ length b
   pub ok : IsOk f

@@ -38,7 +38,7 @@ pub fn one_fault()
         IsFaultOf l o b k at → IsFaultOf l o b k' at' → (k ≡ k') × (at ≡ at') }
 {}
 
-/// Bytes hold a list of valid items (RFC 8742), or one valid item, or they do not: either can be told.
+/// Bytes hold a list of valid items (RFC 8742), or one valid item, or they do not: either can be known.
 pub fn held_or_not()
     ensures list { (b : List ℕ) → AreBytes b → ((xs : Values) × EmbedsAll b xs) ⊎ ((xs : Values) → EmbedsAll b xs → ⊥) }
     ensures single { (b : List ℕ) → AreBytes b → ((x : Value) × Embeds b x) ⊎ ((x : Value) → Embeds b x → ⊥) }

@@ -7,7 +7,7 @@ use Rattle.cbor_item.specs.declared.sound.Unsound.{Unsound}
 use Rattle.cbor_item.specs.declared.sound.Unsound.TheVariants.{TooDeep, BadSimple, BadBits, TooBig, Duplicate, Memory}
 
 -- the first of these, in this order, that holds of the item; that there was no memory says no more than that the first
--- three, which are told without any, do not
+-- three, which are reported without any, do not
 abbrev pub IsFirstUnsoundness : Value → Unsound → Type 0
 IsFirstUnsoundness x TooDeep = 256 < depth_of x
 IsFirstUnsoundness x BadSimple = (depth_of x ≤ 256) × (AreSimplesAssignable x → ⊥)

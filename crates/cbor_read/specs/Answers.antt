@@ -43,14 +43,14 @@ pub record IsSmallNext (r : Reading) (piece : List ℕ) : Type 0 where
   pub some : 0 < length piece
   pub small : slice_index piece 0 < 24
 
--- How far a piece is used before a fault of this kind at this place is told: up to the fault's byte, or, where the item
+-- How far a piece is used before a fault of this kind at this place is reported: up to the fault's byte, or, where the item
 -- is whole, up to its end.
 abbrev pub IsUsedUpTo : Reading → List ℕ → ℕ → FaultKind → ℕ → Type 0
 IsUsedUpTo old piece used BadText at = IsWellFormed (old.fed ++ take used piece)
 IsUsedUpTo old piece used DuplicateKey at = IsWellFormed (old.fed ++ take used piece)
 IsUsedUpTo old piece used _ at = (used < length piece) × (at ≡ old.offset + length (old.fed ++ take used piece))
 
--- Whatever follows, this fault is told of the bytes; it is the first answer that says so, and the reader stops with it.
+-- Whatever follows, this fault is reported for the bytes; it is the first answer that says so, and the reader stops with it.
 pub record IsRefused (old : Reading) (piece : List ℕ) (used : ℕ) (fault : declared.Fault) (new : Reading) : Type 0 where
   pub within : used ≤ length piece
   pub told : (more : List ℕ) → IsFaultOf old.limits old.offset ((old.fed ++ piece) ++ more) fault.kind fault.at

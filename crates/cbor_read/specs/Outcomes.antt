@@ -13,13 +13,13 @@ use Rattle.cbor_data.specs.declared.FaultKind.TheVariants.{BadText, DuplicateKey
 use Rattle.cbor_read.specs.declared.value.Outcome.{Outcome}
 use Rattle.cbor_read.specs.declared.value.Outcome.TheVariants.{Item, Fault}
 
--- it is told of a whole item
+-- it is reported for a whole item
 abbrev pub IsOfValue : FaultKind → Type 0
 IsOfValue BadText = Unit {0}
 IsOfValue DuplicateKey = Unit {0}
 IsOfValue _ = ⊥
 
--- whatever follows the item's bytes, this fault is told of them
+-- whatever follows the item's bytes, this fault is reported for them
 pub record IsWrong (l : Bounds) (o : ℕ) (b : List ℕ) (fault : declared.Fault) : Type 0 where
   pub value : IsOfValue fault.kind
   pub told : (more : List ℕ) → IsFaultOf l o (b ++ more) fault.kind fault.at

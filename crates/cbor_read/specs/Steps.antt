@@ -18,7 +18,7 @@ use Rattle.cbor_data.specs.declared.FaultKind.TheVariants as kinds
 use Rattle.cbor_read.specs.declared.follow.Advance.{Advance}
 use Rattle.cbor_read.specs.declared.follow.Advance.TheVariants.{Open, Whole, Fault}
 
--- it is told of a byte, and not of a whole item
+-- it is reported for a byte, and not of a whole item
 abbrev pub IsOfForm : FaultKind → Type 0
 IsOfForm kinds.BadText = ⊥
 IsOfForm kinds.DuplicateKey = ⊥
@@ -46,7 +46,7 @@ pub record IsOpen (l : Bounds) (o : ℕ) (b : List ℕ) : Type 0 where
 abbrev pub IsFull : Bounds → ℕ → List ℕ → Type 0
 IsFull l o b = (length b ≡ l.item_bytes) ⊎ (o + length b ≡ last_offset)
 
--- whatever follows, this is told of the byte that comes where there is no room
+-- whatever follows, this is reported for the byte that comes where there is no room
 pub record IsToldPast (l : Bounds) (o : ℕ) (b byte : List ℕ) (kind : FaultKind) : Type 0 where
   pub form : IsOfForm kind
   pub told : (more : List ℕ) → IsFull l o b → IsFaultOf l o (b ++ (byte ++ more)) kind (o + length b)
@@ -60,7 +60,7 @@ pub record IsEnded (l : Bounds) (o : ℕ) (seen piece : List ℕ) (used : ℕ) (
   pub sound : IsSoundButKeys x
   pub next : (d p : ℕ) → IsInWork d p [] w
 
--- whatever follows, this fault is told
+-- whatever follows, this fault is reported
 pub record IsFaultTurn (old : Reading) (piece : List ℕ) (used : ℕ) (fault : declared.Fault) : Type 0 where
   pub within : used ≤ length piece
   pub told : (more : List ℕ) → IsFaultOf old.limits old.offset ((old.fed ++ piece) ++ more) fault.kind fault.at

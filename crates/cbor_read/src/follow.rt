@@ -53,7 +53,7 @@ pub fn follow(
     }
 }
 
-/// What is told at the end of a stream that ends after so many bytes of an item.
+/// What is reported at the end of a stream that ends after so many bytes of an item.
 pub fn fault_at_end(limits: Limits, offset: u64, count: u64) -> Fault
     requires { offset + count < 2 ^ 64 }
     ensures { (bytes : List ℕ) → count ≡ length bytes → IsOpen limits offset bytes → IsFaultOf limits offset bytes result.kind result.at }

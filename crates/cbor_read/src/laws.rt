@@ -1,4 +1,4 @@
-//! What is told of the rest of a stream is one thing, and there is one.
+//! What is reported for the rest of a stream is one thing, and there is one.
 
 ghost use Rattle.std.specs.Prelude.{◌≡◌, ◌≤◌, ℕ, List};
 ghost use Rattle.cbor_data.specs.Faults.{Bounds, IsFaultOf, last_offset};
@@ -7,7 +7,7 @@ ghost use Rattle.cbor_data.specs.declared.FaultKind.{FaultKind};
 ghost use Rattle.cbor_read.specs.Fronts.{IsFront};
 ghost use Rattle.cbor_read.specs.declared.front.Front.{Front};
 
-/// The bytes of a rest have one fault at most: one kind is told, at one place. It does nothing.
+/// The bytes of a rest have one fault at most: one kind is reported, at one place. It does nothing.
 pub fn one_fault()
     ensures { (l : Bounds) (o : ℕ) (b : List ℕ) (j k : FaultKind) (at to : ℕ) → AreBytes b → IsFaultOf l o b j at → IsFaultOf l o b k to → (j ≡ k) × (at ≡ to) }
 {

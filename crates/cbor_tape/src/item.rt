@@ -33,7 +33,7 @@ struct Extent {
 /// with a text that is not UTF-8, with a repeated key, too deep, or more than 128 containers deep; or a map has a key that is no
 /// integer and no string in one part, or more keys than `tape` is longer than `bytes`, more than eight, of which after these eight
 /// one is not above all before it, in the order of deterministic bytes (RFC 8949 section 4.2.1). So where the tape is half as long
-/// again as the bytes, each map of integers and strings is told.
+/// again as the bytes, each map of integers and strings is reported.
 ///
 /// No memory is asked for. Calls are as deep as the item. A byte is looked at once, and a key's also where it is compared: with
 /// the highest key before it, with eight others at most, and where that does not tell, once the map is read, as a sort does.
@@ -45,7 +45,7 @@ pub fn whole_tape(bytes: &[u8], depth: u32, tape: &mut [Entry]) -> Option<usize>
     item_at(bytes, 0, depth.min(DEEPEST), tape, 0)
 }
 
-// Where the item at `at` ends, whose place is `place`. Its entry is put behind those of what is below it, when the next place
+// Where the item at `at` ends, whose place is `place`. Its entry is put after those of what is below it, when the next place
 // is known.
 #[cycle(taped)]
 #[inline(always)]

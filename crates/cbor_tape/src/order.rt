@@ -10,8 +10,8 @@ use crate::keys::{Keys, compare, key_at, key_on};
 use std::cmp::Ordering;
 
 /// Whether the keys of a map all differ, of which this is known. Their pairs are on the tape from the place `first` up to the place
-/// `last`. The keys are put in order in the room behind the front of the tape, which is as long as the bytes; where that is too
-/// short for them, it is not told.
+/// `last`. The keys are put in order in the room after the front of the tape, which is as long as the bytes; where that is too
+/// short for them, it is not reported.
 pub fn all_differ(bytes: &[u8], tape: &mut [Entry], first: usize, last: usize, keys: Keys) -> bool
     requires room { length bytes.now ≤ length tape.old }
     requires last { last ≤ length bytes.now }

@@ -42,7 +42,7 @@ fn is_leaf(bytes: &[u8], end: usize) -> bool {
     is_taped(bytes, 0, end, &[(0, 1)])
 }
 
-// Whether nothing is told of what is at the front of the bytes.
+// Whether nothing is reported for what is at the front of the bytes.
 fn is_left(bytes: &[u8], depth: u32) -> bool {
     if bytes.len() > 64 {
         return false;
@@ -120,7 +120,7 @@ fn what_is_left(rt: HostRuntime) {
             1
         )
     );
-    // falling keys for which there is no room behind
+    // falling keys for which there is no room after
     assert!(rt; is_left(FALLING, 1));
     // what is cut, or no item, or no text
     assert!(rt; is_left(b"", 9));

@@ -1,4 +1,4 @@
--- How it is told that a text has no table.
+-- How it is reported that a text has no table.
 use Rattle.cddl_token.specs.declared.Refusal.{Refusal}
 use Rattle.cddl_token.specs.declared.Refusal.TheVariants as why
 use Rattle.seq_run.specs.declared.running.RunFault.TheVariants as run

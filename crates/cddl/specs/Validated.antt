@@ -29,7 +29,7 @@ abbrev pub AreShort : Bounds → List Value → Type 0
 AreShort l [] = Unit {0}
 AreShort l (x ∷ xs) = (length (preferred x) ≤ l.item_bytes) × AreShort l xs
 
--- What is told of a stream, by the root rule:
+-- What is reported for a stream, by the root rule:
 pub record IsTold (rule : Rule) (l : Bounds) (steps : ℕ) (mode : Mode) (stream : List ℕ) (output : Change) (end : End) (rejected : Option Value) : Type 0 where
   -- it begins with these items, and then comes the rest;
   pub items : List Found
@@ -49,14 +49,14 @@ pub record IsTold (rule : Rule) (l : Bounds) (steps : ℕ) (mode : Mode) (stream
   -- and where it was rewritten, it is read back as just these items, provided that they are within the limits as they are written.
   pub read_back : mode ≡ Rewrite → AreShort l (items_of items) → length out ≤ last_offset → Ends rule steps l out (found_from 0 (items_of items)) (clean_end (items_of items))
 
--- The text is a specification in which nothing is wrong, and by its root rule this is told of the stream:
+-- The text is a specification in which nothing is wrong, and by its root rule this is reported for the stream:
 pub record IsValidated (text : List ℕ) (named : Option Text) (l : Bounds) (steps : ℕ) (mode : Mode) (input output : Change) (end : End) (rejected : Option Value) : Type 0 where
   pub rule : Rule
   pub root : HasRoot text named rule
   pub told : IfSome input.before (λ stream. IsTold rule l steps mode stream output end rejected)
   -- of this end and this item `end_line` may be asked;
   pub shown : IsShown end rejected
-  -- no read or write failed, and nothing was read behind the piece that shows the end;
+  -- no read or write failed, and nothing was read after the piece that shows the end;
   pub reads : HasNotFailed input × ReadsByPieces rule steps l input
   pub writes : HasNotFailed output
   -- and any sound items that the rule accepts and that are within the limits, written out, are read back as just these.
@@ -66,7 +66,7 @@ pub record IsValidated (text : List ℕ) (named : Option Text) (l : Bounds) (ste
 abbrev pub IsUntouched : Change → Type 0
 IsUntouched device = (device.after ≡ device.before) × HasNotFailed device
 
--- Why nothing more is told: memory was refused before the first read; or in the midst of the stream, by the root rule, a device
+-- Why nothing more is reported: memory was refused before the first read; or in the midst of the stream, by the root rule, a device
 -- failed or memory was refused.
 pub data IsStopped (text : List ℕ) (named : Option Text) (l : Bounds) (steps : ℕ) (mode : Mode) (input output : Change) (fault : RunFault) : Type 0 where
   at_first : fault ≡ Memory 0 → IsUntouched input → IsUntouched output → IsStopped text named l steps mode input output fault

@@ -1,4 +1,4 @@
-//! From the text of a specification and a stream to what is told of it, in one call.
+//! From the text of a specification and a stream to what is reported for it, in one call.
 
 ghost use Rattle.std.specs.Prelude.{◌≡◌, IfErr, IfOk, IsErrAnd, option_map};
 ghost use Rattle.cddl_check.specs.Text.{IsWrongText};

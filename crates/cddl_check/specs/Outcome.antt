@@ -1,4 +1,4 @@
--- What is told of a specification.
+-- What is reported for a specification.
 use Rattle.std.specs.Prelude.{◌≡◌, Option, Some}
 use Rattle.cddl_token.specs.declared.Refusal.{Refusal}
 use Rattle.cddl_token.specs.declared.Refusal.TheVariants as RefusalV
@@ -17,7 +17,7 @@ pub record IsChecked (x : Cddl) (given : Option Text) (root : Text) : Type 0 whe
   pub rooted : root_of (specification x given) ≡ Some root
   pub accepted : (worth : Values) → AreRight x worth → IsAccepted (specification x given) worth
 
--- Why it is refused; where memory was refused nothing is told.
+-- Why it is refused; where memory was refused nothing is reported.
 abbrev pub IsFaulty : Cddl → Option Text → Refusal → Type 0
 IsFaulty x given (RefusalV.At code at) = (worth : Values) → AreRight x worth → IsRefused (specification x given) worth code at
 IsFaulty x given RefusalV.Memory = Unit {0}

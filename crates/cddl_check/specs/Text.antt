@@ -1,4 +1,4 @@
--- What is told of a text.
+-- What is reported for a text.
 use Rattle.std.specs.Prelude.{ℕ, List, map, All, Option}
 use Rattle.cddl_token.specs.declared.Refusal.{Refusal}
 use Rattle.cddl_token.specs.declared.Refusal.TheVariants as RefusalV
@@ -29,7 +29,7 @@ pub data IsWrongText (text : List ℕ) (n : Option Text) (f : Fault) : Type 0 wh
   no_tree : {ts : List Token} → AreTokensOf ts text → IsRefusedTokens ts f.code f.at → IsWrongText text n f
   has_fault : {x : Cddl} → IsTreeOfText x text → ((worth : Values) → AreRight x worth → IsRefused (specification x n) worth f.code f.at) → IsWrongText text n f
 
--- where memory is refused nothing is told
+-- where memory is refused nothing is reported
 abbrev pub IsUnreadText : List ℕ → Option Text → Refusal → Type 0
 IsUnreadText text n (RefusalV.At code at) = IsWrongText text n (record { code = code; at = at })
 IsUnreadText text n RefusalV.Memory = Unit {0}

@@ -1,4 +1,4 @@
--- How a fault is told.
+-- How a fault is reported.
 use Rattle.std.specs.Prelude.{◌≡◌, ℕ, ◌≤◌, Some}
 use Rattle.cddl_token.specs.declared.Code.{Code}
 use Rattle.cddl_token.specs.declared.Code.TheVariants.{TooManyInstances}
@@ -12,11 +12,11 @@ use Rattle.cddl_check.specs.declared.stopped.Stopped.TheVariants as StoppedV
 abbrev pub refused : Code → ℕ → Stopped
 refused code at = StoppedV.Refused (record { code = code; at = at })
 
--- it is told of this code at the least offset
+-- it is reported for this code at the least offset
 abbrev pub IsTold : (ℕ → Type 0) → Code → Stopped → Type 0
 IsTold P code e = (at : ℕ) × IsLeast P (Some at) × (e ≡ refused code at)
 
--- its code is one of C1 to C10, which are told whatever the root reaches
+-- its code is one of C1 to C10, which are reported whatever the root reaches
 abbrev pub IsEarly : Stopped → Type 0
 IsEarly (StoppedV.Refused f) = number_of f.code ≤ number_of TooManyInstances
 IsEarly StoppedV.Memory = Unit {0}

@@ -30,7 +30,7 @@ use std::alloc::Global;
 #[derive(Drop)]
 pub struct Meant {
     pub closed: Closed,
-    /// What `~` of each instance opens.
+    /// What `~` of each instance unwraps.
     pub openings: Vec<Opening>,
     /// The literals that types are.
     pub literals: Literals,

@@ -94,7 +94,7 @@ fn ranks_in(terms: &Terms<'_>, reading: &Reading, order: Order) -> Result<Ranks,
     let first = recursion_of(terms, reading, &order);
     match order {
         Order::Ranks(ranks) => Ok(ranks),
-        // Where something is on a cycle, a fault is told of it.
+        // Where something is on a cycle, a fault is reported for it.
         Order::Cycles(flags) => {
             drop(flags);
             Err(refused(Code::Recursion, first.unwrap_or(0)))

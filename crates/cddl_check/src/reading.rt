@@ -1,4 +1,4 @@
-//! The stages that come before what is told of the root.
+//! The stages that come before what is reported for the root.
 
 ghost use Rattle.std.specs.Prelude.{◌≡◌, ◌+◌, IfErr, IfOk, List, length, option_map};
 ghost use Rattle.cddl_language.specs.Environment.{most_names};

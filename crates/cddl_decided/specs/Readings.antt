@@ -16,7 +16,7 @@ AreRead s ts = IsTokenized s (map span ts) × All (IsReadFrom s) ts
 abbrev pub rooted : Cddl → Option Text → Specification
 rooted x n = record { tree = x; given = n }
 
--- What is told of the tree x is told of y too, with the same name as the root, and by the same table of values.
+-- What is reported for the tree x is reported for y too, with the same name as the root, and by the same table of values.
 pub record TellTheSame (x y : Cddl) : Type 0 where
   pub right : (worth : Values) → AreRight x worth → AreRight y worth
   pub accepted : (n : Option Text) (worth : Values) → IsAccepted (rooted x n) worth → IsAccepted (rooted y n) worth

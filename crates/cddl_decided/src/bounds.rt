@@ -26,7 +26,7 @@ use check_groups::choosing::laws::{opened_names_are_types, texts_have_entries};
 use check_instances::closed::laws::meanings_are_reached;
 use check_instances::openings::laws::{opened_is_reached, part_is_reached};
 
-/// What `~` opens, and that a name is a group's, is found through as many names as the prelude and the text define, if it is
+/// What `~` unwraps, and that a name is a group's, is found through as many names as the prelude and the text define, if it is
 /// through any number. It is so of any definitions.
 pub fn names_are_enough()
     ensures opened { (ds : List Definition) (n : ℕ) (r : Ref) (o : Opened) → opened_in n ds r ≡ Some o → opened ds r ≡ Some o }

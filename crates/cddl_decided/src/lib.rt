@@ -34,7 +34,7 @@ use check_instances::openings::laws::{opened_is_reached, part_is_reached};
 pub mod bounds;
 pub mod tokens;
 
-/// Entries may be empty, as free references are told, where each of them may take no item by its form. It is so of any definitions.
+/// Entries may be empty, as free references are reported, where each of them may take no item by its form. It is so of any definitions.
 pub fn empty_by_form()
     ensures { (worth : Values) (ds : List Definition) (es : Entries) → AllMayBeEmpty (language worth ds) (map entry (entry_list es)) → MayBeEmpty ds es }
 {}
@@ -76,7 +76,7 @@ pub fn accepted_has_table()
     part_is_reached();
 }
 
-/// What is told of a specification does not depend on the table of values, where that is right for its text. What is accepted by one
+/// What is reported for a specification does not depend on the table of values, where that is right for its text. What is accepted by one
 /// is accepted by each; and where one has it refused, it can't be that not each has it refused for the same reason at the same byte.
 pub fn one_outcome()
     ensures accepted { (s : Specification) (u w : Values) → AreRight s.tree u → AreRight s.tree w → IsAccepted s u → IsAccepted s w }

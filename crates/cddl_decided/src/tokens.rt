@@ -19,8 +19,8 @@ pub fn tokens_or_fault()
     ensures { (s : List ℕ) → ((ts : List Spanned) → IsTokenized s ts → ⊥) → ((c : Code) (p : ℕ) → IsRefused s c p → ⊥) → ⊥ }
 {}
 
-/// Two lists of tokens of one source differ at most in where in memory their texts stand. That plays no part in what is told: they
-/// are both refused, for the same reason at the same byte, or neither is; and of their trees the same is told.
+/// Two lists of tokens of one source differ at most in where in memory their texts stand. That plays no part in what is reported: they
+/// are both refused, for the same reason at the same byte, or neither is; and of their trees the same is reported.
 pub fn one_reading()
     ensures refused { (s : List ℕ) (ts us : List Token) → AreRead s ts → AreRead s us → (c : Code) (p : ℕ) → Trees.IsRefused ts c p → Trees.IsRefused us c p }
     ensures tree { (s : List ℕ) (ts us : List Token) → AreRead s ts → AreRead s us → (x y : Cddl) → Trees.IsTreeOf x ts → Trees.IsTreeOf y us → TellTheSame x y }

@@ -5,7 +5,7 @@ use Rattle.cbor_data.specs.Value.{Value}
 use Rattle.cddl_examples.specs.declared.decoding.Undecoded.{Undecoded}
 use Rattle.cddl_examples.specs.declared.decoding.Undecoded.TheVariants.{Empty, Fault, Longer, Memory}
 
--- where memory is refused nothing is told
+-- where memory is refused nothing is reported
 abbrev pub IsUndecoded : Bounds → List ℕ → Undecoded → Type 0
 IsUndecoded l b Empty = b ≡ []
 IsUndecoded l b (Fault fault) = IsFaultOf l 0 b fault.kind fault.at

@@ -15,7 +15,7 @@ pub passed_more : (at : ℕ) (ts : List Token) (k : ℕ) (d : Token) → k < len
 passed_more at ts k d lt before = at_drop_more (passed at) ts k d lt ∙ ap (λ b. cond b (suc (passed at (drop (k + 1) ts))) 0) (lt-ltb (get_or ts k d).start at before)
 
 pub passed_here : (at : ℕ) (ts : List Token) (k : ℕ) (d : Token) → k < length ts → at ≤ (get_or ts k d).start → passed at (drop k ts) ≡ 0
-passed_here at ts k d lt behind = at_drop_more (passed at) ts k d lt ∙ ap (λ b. cond b (suc (passed at (drop (k + 1) ts))) 0) (le-ltb (get_or ts k d).start at behind)
+passed_here at ts k d lt after = at_drop_more (passed at) ts k d lt ∙ ap (λ b. cond b (suc (passed at (drop (k + 1) ts))) 0) (le-ltb (get_or ts k d).start at after)
 
 pub lists_at : (name : List ℕ) (ts : List Token) (k : ℕ) (d : Token) (place : InList) (same : Bool) → k < length ts → in_list_of (get_or ts k d).kind ≡ place → pointwise nat_eq (get_or ts k d).text.now name ≡ same →
     lists name (drop k ts) ≡ listed_by place same (lists name (drop (k + 1) ts))

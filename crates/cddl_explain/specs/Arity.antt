@@ -29,7 +29,7 @@ commas depth [] = 0
 commas depth (t ∷ ts) =
     one_where (depth == 1 && is_comma t.kind) + (if opened_after t.kind depth == 0 then 0 else commas (opened_after t.kind depth) ts)
 
--- how many arguments or parameters the first of these tokens has, which is a name: what commas part behind its `<`
+-- how many arguments or parameters the first of these tokens has, which is a name: what commas part after its `<`
 abbrev pub arity : List Token → ℕ
 arity [] = 0
 arity (t ∷ ts) = if is_open t.kind then 1 + commas 0 (t ∷ ts) else 0

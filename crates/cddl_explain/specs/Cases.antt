@@ -22,7 +22,7 @@ abbrev pub root_case : List Token → List ℕ
 root_case [] = text.GROUP_ROOT.now
 root_case (t ∷ ts) = if is_open t.kind then text.OPEN_ROOT.now else text.GROUP_ROOT.now
 
--- of a name of the wrong kind, by the token before it: behind `&` it is a type, and else a group
+-- of a name of the wrong kind, by the token before it: after `&` it is a type, and else a group
 abbrev pub kind_case : Option Token → List ℕ
 kind_case None = text.GROUP_FOR_TYPE.now
 kind_case (Some t) = if is_ampersand t.kind then text.TYPE_FOR_GROUP.now else text.GROUP_FOR_TYPE.now

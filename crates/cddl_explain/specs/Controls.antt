@@ -13,7 +13,7 @@ joins control = is_word control (codes ".cat") || is_word control (codes ".det")
 abbrev pub asks_members : List ℕ → Bool
 asks_members control = is_word control (codes ".size") || is_word control (codes ".bits")
 
--- of what stands behind this control and is no literal for it
+-- of what stands after this control and is no literal for it
 abbrev pub not_literal : List ℕ → List ℕ
 not_literal control =
     if is_word control (codes ".plus") then text.NO_SUMMAND.now

@@ -8,7 +8,7 @@ use Rattle.cddl_explain.specs.declared.expected.TheConstants as constant
 use Rattle.cddl_explain.specs.declared.phrases.Collection.{Collection}
 use Rattle.cddl_explain.specs.declared.phrases.Collection.TheVariants as collection
 
--- The token may come behind these: with it they begin a specification, and no more are open than may be.
+-- The token may come after these: with it they begin a specification, and no more are open than may be.
 pub record MayCome (front : List Token) (t : Token) : Type 0 where
   pub begins : Begins (lexemes (front ++ t ∷ []))
   pub within : deepest 0 (lexemes (front ++ t ∷ [])) ≤ nesting_limit
@@ -52,7 +52,7 @@ belongs collection.Type kind = begins_type kind
 belongs collection.Name kind = is_name kind
 belongs collection.Nothing kind = false
 
--- what is told together of these kinds, of which none is there twice: all with which an entry, or a type, or a name begins
+-- what is reported together of these kinds, of which none is there twice: all with which an entry, or a type, or a name begins
 abbrev pub collection_of : List Kind → Collection
 collection_of kinds =
     if count_by (belongs collection.Entry) kinds == 15 then collection.Entry
@@ -101,12 +101,12 @@ phrase_of Tilde = codes "`~`"
 phrase_of Ampersand = codes "`&`"
 phrase_of End = codes "the end of the text"
 
--- the phrases of those that are not told together
+-- the phrases of those that are not reported together
 abbrev pub single_phrases : Collection → List Kind → List (List ℕ)
 single_phrases together [] = []
 single_phrases together (k ∷ ks) = if belongs together k then single_phrases together ks else phrase_of k ∷ single_phrases together ks
 
--- each kind is called by its phrase, and those that are told together by theirs, last
+-- each kind is called by its phrase, and those that are reported together by theirs, last
 abbrev pub phrases_of : List Kind → List (List ℕ)
 phrases_of kinds = single_phrases (collection_of kinds) kinds ++ collection_phrase (collection_of kinds)
 
@@ -114,7 +114,7 @@ abbrev pub parting : List (List ℕ) → List ℕ
 parting [] = codes " or "
 parting (p ∷ ps) = codes ", "
 
--- each phrase behind what parts it from the one before
+-- each phrase after what parts it from the one before
 abbrev pub parted : List (List ℕ) → List ℕ
 parted [] = []
 parted (p ∷ ps) = parting ps ++ (p ++ parted ps)
@@ -123,7 +123,7 @@ abbrev pub expected_words : List (List ℕ) → List ℕ
 expected_words [] = []
 expected_words (p ∷ ps) = codes "; expected " ++ (p ++ parted ps)
 
--- What is said of the kinds of which a token may come behind these, and nothing where these are too many to ask for each kind.
+-- What is said of the kinds of which a token may come after these, and nothing where these are too many to ask for each kind.
 pub data IsExpectation (front : List Token) (told : List ℕ) : Type 0 where
   asked : (kinds : List Kind) → length front ≤ constant.MOST_TOKENS → AreExpected front constant.KINDS kinds → told ≡ expected_words (phrases_of kinds) → IsExpectation front told
   too_many : constant.MOST_TOKENS < length front → told ≡ [] → IsExpectation front told

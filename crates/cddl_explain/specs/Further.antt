@@ -1,4 +1,4 @@
--- What is told of the faults of one code besides the one that was told already.
+-- What is reported for the faults of one code besides the one that was reported already.
 use Rattle.std.specs.Prelude.{◌≡◌, ◌≢◌, ℕ, ◌==◌, List, [], ◌∷◌, ◌++◌, codes, decimal, Option, if◌then◌else◌}
 use Rattle.cddl_token.specs.Messages.{code_text}
 use Rattle.cddl_token.specs.declared.Code.{Code}
@@ -8,7 +8,7 @@ use Rattle.cddl_token.specs.declared.Token.{Token}
 use Rattle.cddl_explain.specs.Parts.{AreTokens}
 use Rattle.cddl_explain.specs.Refusals.{IsExplainedPlace}
 
--- of each of these offsets, in their order, but for the one that was told already, where it is and what is wrong there
+-- of each of these offsets, in their order, but for the one that was reported already, where it is and what is wrong there
 pub data AreExplained (code : Code) (already : Refusal) (file text : List ℕ) (ts : List Token) (root : Option (List ℕ)) : (offsets told : List ℕ) → Type 0 where
   no_offset : AreExplained code already file text ts root [] []
   told_already : {offsets told : List ℕ} → AreExplained code already file text ts root offsets told → (at : ℕ) → already ≡ At code at → AreExplained code already file text ts root (offsets ++ at ∷ []) told

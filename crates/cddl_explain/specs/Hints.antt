@@ -1,4 +1,4 @@
--- What was perhaps meant, in the words behind what is wrong.
+-- What was perhaps meant, in the words after what is wrong.
 use Rattle.std.specs.Prelude.{◌≡◌, ℕ, List, [], ◌++◌, codes, Option, Some, None, slice_range}
 use Rattle.std.specs.Str.Lossy.{utf8_lossy}
 use Rattle.cddl_token.specs.declared.Code.{Code}
@@ -11,7 +11,7 @@ use Rattle.cddl_explain.specs.Meant.{character_words, choice_words, comment_word
 use Rattle.cddl_explain.specs.Origins.{IsOrigin}
 use Rattle.cddl_explain.specs.Roots.{first_container, root_words}
 use Rattle.cddl_explain.specs.Rules.{rule_names}
-use Rattle.cddl_explain.specs.Spots.{before, behind, last_of}
+use Rattle.cddl_explain.specs.Spots.{after, before, last_of}
 use Rattle.cddl_explain.specs.declared.hints.TheConstants as text
 use Rattle.cddl_explain.specs.declared.meant.TheConstants as likely
 use Rattle.cddl_explain.specs.declared.parts.Part.{Part}
@@ -57,14 +57,14 @@ IsKindHint source p front ts hint = (origin : List ℕ) × IsOrigin source p.fro
 abbrev pub IsHint : Code → List ℕ → Part → List Token → Option (List ℕ) → List ℕ → Type 0
 IsHint BadCharacter source p ts root hint = hint ≡ character_words (part_text source p)
 IsHint FloatLiteral source p ts root hint = hint ≡ likely.FLOATS.now
-IsHint Unexpected source p ts root hint = IsTokenHint (before p.from ts) (behind p.from ts) hint
-IsHint Undefined source p ts root hint = IsNameHint source p (behind p.from ts) ts hint
+IsHint Unexpected source p ts root hint = IsTokenHint (before p.from ts) (after p.from ts) hint
+IsHint Undefined source p ts root hint = IsNameHint source p (after p.from ts) ts hint
 IsHint UnknownControl source p ts root hint = IsHintAmong control_names (part_text source p) text.KNOWN.now hint
 IsHint NoRoot source p ts (Some name) hint = IsHintAmong (defined_names ts) name [] hint
-IsHint BadRoot source p ts root hint = hint ≡ root_words (first_container p.from ts) (behind p.from ts)
-IsHint HashForm source p ts root hint = hint ≡ tag_words (behind p.from ts)
-IsHint NoKey source p ts root hint = hint ≡ entry_words (behind p.from ts)
-IsHint Duplicate source p ts root hint = IsChoiceHint source p (behind p.from ts) ts hint
+IsHint BadRoot source p ts root hint = hint ≡ root_words (first_container p.from ts) (after p.from ts)
+IsHint HashForm source p ts root hint = hint ≡ tag_words (after p.from ts)
+IsHint NoKey source p ts root hint = hint ≡ entry_words (after p.from ts)
+IsHint Duplicate source p ts root hint = IsChoiceHint source p (after p.from ts) ts hint
 IsHint KindClash source p ts root hint = IsOrigin source p.from ts (part_text source p) hint
 IsHint Arity source p ts root hint = IsOrigin source p.from ts (part_text source p) hint
 IsHint GroupAsType source p ts root hint = IsKindHint source p (before p.from ts) ts hint

@@ -46,7 +46,7 @@ abbrev pub goes_on : List Token → Bool
 goes_on [] = false
 goes_on (t ∷ ts) = begins_type t.kind && not (begins_rule (t ∷ ts))
 
--- what is said of a token that could be a key, where a type comes right behind it
+-- what is said of a token that could be a key, where a type comes right after it
 abbrev pub key_words : List Token → List ℕ
 key_words [] = []
 key_words (t ∷ ts) = if is_key t.kind && goes_on ts then text.KEY.now else []
@@ -55,11 +55,11 @@ key_words (t ∷ ts) = if is_key t.kind && goes_on ts then text.KEY.now else []
 abbrev pub named_key_words : List Token → List ℕ
 named_key_words [] = []
 named_key_words (t ∷ ts) =
-    if is_plain t.kind && goes_on ts then codes "; if `" ++ (t.text.now ++ codes "` is a key, write `:` behind it, or `=>` where it is a type")
-    else if is_number t.kind && goes_on ts then codes "; if `" ++ (t.text.now ++ codes "` is a key, write `:` behind it")
+    if is_plain t.kind && goes_on ts then codes "; if `" ++ (t.text.now ++ codes "` is a key, write `:` after it, or `=>` where it is a type")
+    else if is_number t.kind && goes_on ts then codes "; if `" ++ (t.text.now ++ codes "` is a key, write `:` after it")
     else key_words (t ∷ ts)
 
--- what is said of an entry of a map without a key: of what stands behind its occurrence
+-- what is said of an entry of a map without a key: of what stands after its occurrence
 abbrev pub entry_words : List Token → List ℕ
 entry_words [] = []
 entry_words (t ∷ ts) = if is_occur t.kind then named_key_words ts else named_key_words (t ∷ ts)
@@ -106,7 +106,7 @@ is_tag text = starts_with nat_eq text (codes "#6")
 -- what is said of a tag that holds nothing
 abbrev pub tag_words : List Token → List ℕ
 tag_words [] = []
-tag_words (t ∷ ts) = if is_tag t.text.now then codes "; a tag has behind it what it holds, as in `" ++ (t.text.now ++ codes "(any)`") else []
+tag_words (t ∷ ts) = if is_tag t.text.now then codes "; what a tag holds stands after it, as in `" ++ (t.text.now ++ codes "(any)`") else []
 
 -- what is said of a token that cannot stand where it does, and with which a comment begins in other languages
 abbrev pub comment_by : Kind → List ℕ

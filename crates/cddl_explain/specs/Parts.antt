@@ -38,7 +38,7 @@ abbrev pub is_open : Kind → Bool
 is_open NameOpen = true
 is_open _ = false
 
--- The part of a token: of a name and `<` the name. The end of the text is told behind the token before it, which ends at `before`.
+-- The part of a token: of a name and `<` the name. The end of the text is reported after the token before it, which ends at `before`.
 abbrev pub part_of_token : ℕ → Token → Part
 part_of_token before t =
     if is_end t.kind then record { from = before; to = before; ends = true }
@@ -50,7 +50,7 @@ abbrev pub token_part : ℕ → ℕ → List Token → Option Part
 token_part offset before [] = None
 token_part offset before (t ∷ ts) = if t.start == offset then Some (part_of_token before t) else token_part offset t.end ts
 
--- these are told at 0, wherever the first token is
+-- these are reported at 0, wherever the first token is
 abbrev pub has_token : Code → Bool
 has_token NoRoot = false
 has_token TooManyInstances = false

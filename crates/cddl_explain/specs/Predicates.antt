@@ -7,7 +7,7 @@ use Rattle.cddl_explain.specs.Arity.{arity_of_name}
 use Rattle.cddl_explain.specs.Cases.{clash_case, hash_case, kind_case, opening_case, range_case, root_case}
 use Rattle.cddl_explain.specs.Controls.{controller_case, literal_case}
 use Rattle.cddl_explain.specs.Rules.{begins_rule}
-use Rattle.cddl_explain.specs.Spots.{before, behind, last_of}
+use Rattle.cddl_explain.specs.Spots.{after, before, last_of}
 use Rattle.cddl_explain.specs.declared.predicates.TheConstants as text
 
 -- by the code, with the token before a place and those from there on, of all tokens
@@ -49,8 +49,8 @@ duplicate_of (t ∷ ts) = if begins_rule (t ∷ ts) then text.DUPLICATE.now else
 
 -- what is wrong with the token at the offset, of all tokens
 abbrev pub predicate_at : Code → ℕ → List Token → List ℕ
-predicate_at Arity at ts = arity_of_name (before at ts) (behind at ts) ts
-predicate_at Duplicate at ts = duplicate_of (behind at ts)
+predicate_at Arity at ts = arity_of_name (before at ts) (after at ts) ts
+predicate_at Duplicate at ts = duplicate_of (after at ts)
 predicate_at NotLiteral at ts = literal_case (last_of (before at ts))
 predicate_at BadController at ts = controller_case (last_of (before at ts))
-predicate_at code at ts = predicate_of code (last_of (before at ts)) (behind at ts) ts
+predicate_at code at ts = predicate_of code (last_of (before at ts)) (after at ts) ts

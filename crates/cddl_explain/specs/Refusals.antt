@@ -1,4 +1,4 @@
--- What is told of a refusal to one who wants more than its line.
+-- What is reported for a refusal to one who wants more than its line.
 use Rattle.std.specs.Prelude.{◌≡◌, ℕ, nat_lt, List, ◌++◌, codes, decimal, slice_range, take, Option, Some, None, if◌then◌else◌}
 use Rattle.cddl_token.specs.Messages.{refusal_text}
 use Rattle.cddl_token.specs.declared.Code.{Code}
@@ -35,7 +35,7 @@ pub record IsWrong (code : Code) (text : List ℕ) (part : Part) (ts : List Toke
   pub is_hint : IsHint code text part ts root hint
   pub is : told ≡ said code text ts root part ++ hint
 
--- what is told of a fault in a text with these tokens: the file, the line and the column, and the name of the code; the line of
+-- what is reported for a fault in a text with these tokens: the file, the line and the column, and the name of the code; the line of
 -- the text and the marks under the part that is meant; what is wrong with it; and what was perhaps meant
 pub record IsExplainedPlace (code : Code) (offset : ℕ) (file text : List ℕ) (ts : List Token) (root : Option (List ℕ)) (told : List ℕ) : Type 0 where
   pub part : Part
@@ -49,7 +49,7 @@ pub record IsExplainedPlace (code : Code) (offset : ℕ) (file text : List ℕ) 
   pub is_wrong : IsWrong code text part ts root wrong
   pub is : told ≡ shown file ++ (codes ":" ++ (decimal line ++ (codes ":" ++ (decimal column ++ (codes ": " ++ (name_of code ++ (codes "\n" ++ (pointed ++ (wrong ++ codes "\n")))))))))
 
--- what is told of a refusal: its line, and then this
+-- what is reported for a refusal: its line, and then this
 pub record IsExplainedRefusal (code : Code) (offset : ℕ) (file text : List ℕ) (root : Option (List ℕ)) (told : List ℕ) : Type 0 where
   pub ts : List Token
   pub are_tokens : AreTokens text ts

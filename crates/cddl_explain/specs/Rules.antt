@@ -35,7 +35,7 @@ closes_by in_list.Last now later = now
 closes_by in_list.Within now later = later
 closes_by in_list.Foreign now later = false
 
--- a list of parameters ends, and an assignment comes right behind it
+-- a list of parameters ends, and an assignment comes right after it
 abbrev pub closes : List Token → Bool
 closes [] = false
 closes (t ∷ ts) = closes_by (in_list_of t.kind) (assigns ts) (closes ts)

@@ -7,12 +7,12 @@ abbrev pub passed : ℕ → List Token → ℕ
 passed at [] = 0
 passed at (t ∷ ts) = if nat_lt t.start at then suc (passed at ts) else 0
 
--- the tokens that begin before the offset, and those behind them
+-- the tokens that begin before the offset, and those after them
 abbrev pub before : ℕ → List Token → List Token
 before at ts = take (passed at ts) ts
 
-abbrev pub behind : ℕ → List Token → List Token
-behind at ts = drop (passed at ts) ts
+abbrev pub after : ℕ → List Token → List Token
+after at ts = drop (passed at ts) ts
 
 abbrev pub last_of : List Token → Option Token
 last_of ts = slice_get ts (length ts - 1)

@@ -20,7 +20,7 @@ abbrev pub IsNameOf : Subject → List ℕ → Type 0
 IsNameOf (subject.Code code) word = IsSameWord word (number_of code) ⊎ IsSameWord word (name_of code)
 IsNameOf (subject.Cause cause) word = IsSameWord word (words_of cause)
 
--- what is said of a code: what is wrong, which byte is told, and an example
+-- what is said of a code: what is wrong, which byte is reported, and an example
 abbrev pub code_explanation : Code → List ℕ
 code_explanation code =
     code_text code ++ (codes ": " ++ (sentence_of code ++ (codes "\nTold at: " ++ (place_of code ++ (codes "\nExample, refused at byte " ++ (decimal (example_at_of code) ++ (codes ":\n\n" ++ (example_of code ++ codes "\n"))))))))

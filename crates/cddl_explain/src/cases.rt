@@ -14,16 +14,16 @@ pub(crate) const OPEN_ROOT: &str = "is the root, and it has parameters";
 
 pub(crate) const GROUP_FOR_TYPE: &str = "is a group, and a type has to stand here";
 
-pub(crate) const TYPE_FOR_GROUP: &str = "is a type, and behind & a group has to stand";
+pub(crate) const TYPE_FOR_GROUP: &str = "is a type, and after & a group has to stand";
 
 pub(crate) const EMPTY_TAG: &str = "is a tag that holds nothing";
 
 pub(crate) const NO_SIMPLE_VALUE: &str =
-    "is no simple value and no float: behind #7. stands a number up to 255, without 24 and 28 to 31";
+    "is no simple value and no float: after #7. stands a number up to 255, without 24 and 28 to 31";
 
 pub(crate) const NO_MAJOR_TYPE: &str = "is no major type: these are #0 to #7";
 
-pub(crate) const NO_NUMBER: &str = "has a number behind the dot, as only #6 and #7 have here";
+pub(crate) const NO_NUMBER: &str = "has a number after the dot, as only #6 and #7 have here";
 
 pub(crate) const OPENS_NOTHING: &str =
     "opens no name of one array, map or tag; or it opens an array or a map where a type has to stand";

@@ -79,7 +79,7 @@ pub(crate) const DUPLICATE_KEY: &str =
     "a map has two keys that are the same, whatever order the pairs in them have; the place numbers the later one, where the item is place 0\nExample, by the specification a = any and the bytes a2 01 02 01 03:\n\nfailed: 0 items, offset 0: duplicate key at place 3";
 
 pub(crate) const MISMATCH: &str =
-    "the item does not match the root of the specification; the path leads to the place that shows it, and behind it is what is there\nExample, by the specification a = uint and the bytes 20:\n\nfailed: 0 items, offset 0: mismatch at $: -1";
+    "the item does not match the root of the specification; the path leads to the place that shows it, and after it is what is there\nExample, by the specification a = uint and the bytes 20:\n\nfailed: 0 items, offset 0: mismatch at $: -1";
 
 pub(crate) const SPENT: &str =
     "to tell whether the item matches takes more questions than --steps allows, which are 10000000 unless it is given\nExample, by the specification a = [* int], with --steps 1 and the bytes 81 01:\n\nfailed: 0 items, offset 0: step limit reached";

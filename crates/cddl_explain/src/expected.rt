@@ -13,7 +13,7 @@ use tree_nodes::syntax::is_balanced;
 // How many tokens may stand before the place: the parser reads them once for each kind.
 pub(crate) const MOST_TOKENS: usize = 8192;
 
-// All kinds, in the order in which they are told.
+// All kinds, in the order in which they are reported.
 pub(crate) const KINDS: [Kind; 32] = [
     Kind::ParenClose,
     Kind::BracketClose,
@@ -49,7 +49,7 @@ pub(crate) const KINDS: [Kind; 32] = [
     Kind::End,
 ];
 
-// Which tokens may come behind these, which begin before an offset, in words behind what is wrong; none where these are too
+// Which tokens may come after these, which begin before an offset, in words after what is wrong; none where these are too
 // many.
 pub(crate) fn expectation(
     alloc: Global,
@@ -62,13 +62,13 @@ pub(crate) fn expectation(
     if front.len() > MOST_TOKENS {
         return Ok(String::new(alloc));
     }
-    let kinds = kinds_behind(alloc, front, at)?;
+    let kinds = kinds_after(alloc, front, at)?;
     let phrases = phrases_of(alloc, kinds.as_slice())?;
     expected_words(alloc, phrases.as_slice())
 }
 
-// Of which kinds a token may come behind these, in the order of `KINDS`.
-fn kinds_behind(alloc: Global, front: &[Token<'_>], at: usize) -> Result<Vec<Kind>, AllocError>
+// Of which kinds a token may come after these, in the order of `KINDS`.
+fn kinds_after(alloc: Global, front: &[Token<'_>], at: usize) -> Result<Vec<Kind>, AllocError>
     requires { All (λ (t : AToken). t.start < at) front.now }
     ensures { IfOk result (λ kinds. AreExpected front.now KINDS kinds.items) }
 {
@@ -82,7 +82,7 @@ fn kinds_behind(alloc: Global, front: &[Token<'_>], at: usize) -> Result<Vec<Kin
     Ok(found)
 }
 
-// Whether a token that begins at 0 may come behind these: the parser refuses neither it nor one of these.
+// Whether a token that begins at 0 may come after these: the parser refuses neither it nor one of these.
 fn may_come(
     alloc: Global,
     front: &[Token<'_>],

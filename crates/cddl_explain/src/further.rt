@@ -1,4 +1,4 @@
-//! What is told of the faults of one code besides the one that was told already.
+//! What is reported for the faults of one code besides the one that was reported already.
 
 ghost use Rattle.std.specs.Prelude.{◌≡◌, IfOk, ◌↔◌, IsTrue, length, map, option_map, string_bytes};
 ghost use Rattle.cddl_token.specs.Answers.{span, InOrder};
@@ -9,7 +9,7 @@ use crate::refusals::explained_place;
 use cddl_token::{Code, Refusal, Token};
 use std::alloc::{AllocError, Global};
 
-/// What is told of faults with this code at these offsets, in whole lines, but for the one that was told already: of each the
+/// What is reported for faults with this code at these offsets, in whole lines, but for the one that was reported already: of each the
 /// name of the file, the line and the column, and the name of the code; the line of the text, with marks under the part that is
 /// meant; and what is wrong with it, as [`crate::explained_refusal`] tells it of the first. Then how many more there are, if
 /// any.
@@ -69,7 +69,7 @@ fn explained_places(
     Ok(told)
 }
 
-// Whether this is the fault that was told already.
+// Whether this is the fault that was reported already.
 fn is_that(already: Refusal, code: Code, at: usize) -> bool
     ensures { IsTrue result ↔ (already ≡ Refusal.At code at) }
 {

@@ -28,7 +28,7 @@ use std::alloc::{AllocError, Global};
 pub(crate) const KNOWN: &str =
     "; known are .default, .and, .within, .cbor, .cborseq, .eq, .ne, .lt, .le, .gt, .ge, .size, .bits, .plus, .cat and .det";
 
-// What was perhaps meant in place of what a refusal with this code is about: words behind what is wrong, or none.
+// What was perhaps meant in place of what a refusal with this code is about: words after what is wrong, or none.
 pub(crate) fn hint(
     alloc: Global,
     code: Code,
@@ -40,18 +40,18 @@ pub(crate) fn hint(
     requires { IsWithin (length text.now) part }
     ensures { IfOk result (λ told. IsHint code text.now part tokens.now (option_map (λ r. r.now) root.entry) (string_bytes told)) }
 {
-    let (before, behind) = tokens.split_at(passed(tokens, part.from));
+    let (before, after) = tokens.split_at(passed(tokens, part.from));
     match (code, root) {
         (Code::BadCharacter, _) => character_hint(alloc, text, part),
         (Code::FloatLiteral, _) => format!(in alloc; "{FLOATS}"),
-        (Code::Unexpected, _) => token_hint(alloc, before, part.from, behind),
-        (Code::Undefined, _) => name_hint(alloc, text, part, behind, tokens),
+        (Code::Unexpected, _) => token_hint(alloc, before, part.from, after),
+        (Code::Undefined, _) => name_hint(alloc, text, part, after, tokens),
         (Code::UnknownControl, _) => control_hint(alloc, text, part),
         (Code::NoRoot, Some(name)) => defined_hint(alloc, name, "", tokens),
-        (Code::BadRoot, _) => root_words(alloc, tokens, part.from, behind),
-        (Code::HashForm, _) => tag_words(alloc, behind),
-        (Code::NoKey, _) => entry_words(alloc, behind),
-        (Code::Duplicate, _) => choice_hint(alloc, text, part, behind, tokens),
+        (Code::BadRoot, _) => root_words(alloc, tokens, part.from, after),
+        (Code::HashForm, _) => tag_words(alloc, after),
+        (Code::NoKey, _) => entry_words(alloc, after),
+        (Code::Duplicate, _) => choice_hint(alloc, text, part, after, tokens),
         (Code::KindClash | Code::Arity, _) => rule_hint(alloc, text, part, tokens),
         (Code::GroupAsType, _) => kind_hint(alloc, text, part, before, tokens),
         (Code::TooManyInstances, _) => format!(in alloc; "{INSTANCES}"),
@@ -69,19 +69,19 @@ fn character_hint(alloc: Global, text: &[u8], part: Part) -> Result<String, Allo
     format!(in alloc; "{words}")
 }
 
-// Which tokens may come in place of the first of those behind a place, how the one before it is read, and how a comment begins.
+// Which tokens may come in place of the first of those after a place, how the one before it is read, and how a comment begins.
 fn token_hint(
     alloc: Global,
     before: &[Token<'_>],
     at: usize,
-    behind: &[Token<'_>],
+    after: &[Token<'_>],
 ) -> Result<String, AllocError>
     requires { All (λ (t : AToken). t.start < at) before.now }
-    ensures { IfOk result (λ told. IsTokenHint before.now behind.now (string_bytes told)) }
+    ensures { IfOk result (λ told. IsTokenHint before.now after.now (string_bytes told)) }
 {
     let expected = expectation(alloc, before, at)?;
-    let reading = reading_words(alloc, before.last(), behind)?;
-    let comment = comment_words(behind);
+    let reading = reading_words(alloc, before.last(), after)?;
+    let comment = comment_words(after);
     format!(in alloc; "{expected}{reading}{comment}")
 }
 
@@ -104,14 +104,14 @@ fn choice_hint(
     alloc: Global,
     text: &[u8],
     part: Part,
-    behind: &[Token<'_>],
+    after: &[Token<'_>],
     tokens: &[Token<'_>],
 ) -> Result<String, AllocError>
     requires { IsWithin (length text.now) part }
-    ensures { IfOk result (λ told. IsChoiceHint text.now part behind.now tokens.now (string_bytes told)) }
+    ensures { IfOk result (λ told. IsChoiceHint text.now part after.now tokens.now (string_bytes told)) }
 {
     let origin = rule_hint(alloc, text, part, tokens)?;
-    let choice = choice_words(alloc, behind)?;
+    let choice = choice_words(alloc, after)?;
     format!(in alloc; "{origin}{choice}")
 }
 
@@ -119,14 +119,14 @@ fn name_hint(
     alloc: Global,
     text: &[u8],
     part: Part,
-    behind: &[Token<'_>],
+    after: &[Token<'_>],
     tokens: &[Token<'_>],
 ) -> Result<String, AllocError>
     requires { IsWithin (length text.now) part }
-    ensures { IfOk result (λ told. IsNameHint text.now part behind.now tokens.now (string_bytes told)) }
+    ensures { IfOk result (λ told. IsNameHint text.now part after.now tokens.now (string_bytes told)) }
 {
     let name = String::from_utf8_lossy(alloc, &text[part.from..part.to])?;
-    let other = name_words(alloc, name.as_str(), behind)?;
+    let other = name_words(alloc, name.as_str(), after)?;
     defined_hint(alloc, name.as_str(), other.as_str(), tokens)
 }
 

@@ -1,4 +1,4 @@
-//! What people mostly mean by what is refused: words behind what is wrong, or none.
+//! What people mostly mean by what is refused: words after what is wrong, or none.
 
 ghost use Rattle.std.specs.Prelude.{◌≡◌, option_map, option_copied, string_bytes, IfOk};
 ghost use Rattle.near_words.specs.Near.{texts};
@@ -14,14 +14,14 @@ use std::alloc::{AllocError, Global};
 
 pub(crate) const FLOATS: &str = "; float16, float32 and float64 match floats";
 
-pub(crate) const KEY: &str = "; if it is a key, write `:` behind it";
+pub(crate) const KEY: &str = "; if it is a key, write `:` after it";
 
 pub(crate) const CHOICE: &str = "; `/=` adds a choice to a type, and `//=` one to a group";
 
 pub(crate) const ROUND: &str = "; `[ ]` round it makes an array, and `{ }` a map";
 
 pub(crate) const COMES_BACK: &str =
-    "; a type may come back in an array, a map or a tag, and a group behind an entry that takes an item";
+    "; a type may come back in an array, a map or a tag, and a group after an entry that takes an item";
 
 pub(crate) const INSTANCES: &str =
     "; a name that comes back to itself with other arguments each time has no end of instances";
@@ -100,7 +100,7 @@ fn ending<'w>(name: &str, words: &[&'w str]) -> Option<&'w str>
     None
 }
 
-// Of what could be a key, where a type comes right behind it.
+// Of what could be a key, where a type comes right after it.
 pub(crate) fn key_words(alloc: Global, here: &[Token<'_>]) -> Result<String, AllocError>
     ensures { IfOk result (λ told. string_bytes told ≡ key_words here.now) }
 {
@@ -110,7 +110,7 @@ pub(crate) fn key_words(alloc: Global, here: &[Token<'_>]) -> Result<String, All
     }
 }
 
-// Of an entry of a map without a key, behind its occurrence.
+// Of an entry of a map without a key, after its occurrence.
 pub(crate) fn entry_words(alloc: Global, here: &[Token<'_>]) -> Result<String, AllocError>
     ensures { IfOk result (λ told. string_bytes told ≡ entry_words here.now) }
 {
@@ -128,12 +128,12 @@ fn named_key_words(alloc: Global, here: &[Token<'_>]) -> Result<String, AllocErr
         Some((first, rest)) if is_plain(first.kind) && goes_on(rest) => {
             let name = first.text;
             format!(in alloc;
-                "; if `{name}` is a key, write `:` behind it, or `=>` where it is a type"
+                "; if `{name}` is a key, write `:` after it, or `=>` where it is a type"
             )
         }
         Some((first, rest)) if is_number(first.kind) && goes_on(rest) => {
             let number = first.text;
-            format!(in alloc; "; if `{number}` is a key, write `:` behind it")
+            format!(in alloc; "; if `{number}` is a key, write `:` after it")
         }
         _ => key_words(alloc, here),
     }
@@ -272,7 +272,7 @@ pub(crate) fn tag_words(alloc: Global, here: &[Token<'_>]) -> Result<String, All
     };
     let text = first.text;
     if is_tag(text) {
-        format!(in alloc; "; a tag has behind it what it holds, as in `{text}(any)`")
+        format!(in alloc; "; what a tag holds stands after it, as in `{text}(any)`")
     } else {
         Ok(String::new(alloc))
     }

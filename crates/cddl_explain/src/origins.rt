@@ -8,7 +8,7 @@ use cddl_token::Token;
 use std::alloc::{AllocError, Global};
 use text_position::position_of;
 
-// Where the first rule of a name is, unless that is here: words behind what is wrong, or none.
+// Where the first rule of a name is, unless that is here: words after what is wrong, or none.
 pub(crate) fn origin_hint(
     alloc: Global,
     text: &[u8],

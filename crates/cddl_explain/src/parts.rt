@@ -161,7 +161,7 @@ fn shape_of(code: Code) -> Shape
     }
 }
 
-// From an offset to the end of the run that begins at it, or behind it.
+// From an offset to the end of the run that begins at it, or after it.
 fn run(text: &[u8], from: usize, begin: usize, stop: Stop) -> Part
     requires in_order { from ≤ begin }
     requires within { begin ≤ length text.now }

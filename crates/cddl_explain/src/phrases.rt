@@ -7,7 +7,7 @@ ghost use Rattle.cddl_explain.specs.Expected.{begins_entry, begins_type, belongs
 use cddl_token::Kind;
 use std::alloc::{AllocError, Global};
 
-/// Kinds that are told together.
+/// Kinds that are reported together.
 #[derive(Clone, Copy, Debug, PartialEq, Eq)]
 pub(crate) enum Collection {
     /// With which an entry begins.
@@ -35,7 +35,7 @@ pub(crate) fn phrases_of(alloc: Global, kinds: &[Kind]) -> Result<Vec<&'static s
     Ok(phrases)
 }
 
-// What those of these kinds are called that are not told together.
+// What those of these kinds are called that are not reported together.
 fn single_phrases(
     alloc: Global,
     collection: Collection,
@@ -52,7 +52,7 @@ fn single_phrases(
     Ok(phrases)
 }
 
-// What is told together of these kinds, of which none is there twice.
+// What is reported together of these kinds, of which none is there twice.
 fn collection_of(kinds: &[Kind]) -> Collection
     ensures { result ≡ collection_of kinds.now }
 {
@@ -67,7 +67,7 @@ fn collection_of(kinds: &[Kind]) -> Collection
     }
 }
 
-// How many of these kinds are told together so.
+// How many of these kinds are reported together so.
 fn count_in(collection: Collection, kinds: &[Kind]) -> usize
     ensures { result ≡ count_by (belongs collection) kinds.now }
 {
@@ -177,7 +177,7 @@ pub(crate) fn expected_words(alloc: Global, phrases: &[&str]) -> Result<String, 
     format!(in alloc; "; expected {first}{parted}")
 }
 
-// Each of these phrases behind what parts it from the one before.
+// Each of these phrases after what parts it from the one before.
 fn parted(alloc: Global, phrases: &[&str]) -> Result<String, AllocError>
     ensures { IfOk result (λ told. string_bytes told ≡ parted (texts phrases.now)) }
 {

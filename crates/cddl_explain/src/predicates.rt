@@ -56,7 +56,7 @@ pub(crate) const NOT_LITERAL: &str =
 pub(crate) const BAD_CONTROLLER: &str = "begins what the control cannot take";
 
 pub(crate) const NO_KEY: &str =
-    "begins an entry of a map that has no key and is no group: a key has : or => right behind it";
+    "begins an entry of a map that has no key and is no group: a key has : or => right after it";
 
 pub(crate) const MAP_SHAPE: &str =
     "begins an entry of a map whose group occurs as none in a map may, or as its alternatives do not allow; or the group comes back to itself";
@@ -74,14 +74,14 @@ pub(crate) fn predicate_at(
 ) -> Result<String, AllocError>
     ensures { IfOk result (λ told. string_bytes told ≡ predicate_at code at tokens.now) }
 {
-    let (before, behind) = tokens.split_at(passed(tokens, at));
+    let (before, after) = tokens.split_at(passed(tokens, at));
     match code {
-        Code::Arity => arity_of_name(alloc, before, behind, tokens),
-        Code::Duplicate => duplicate(alloc, behind),
+        Code::Arity => arity_of_name(alloc, before, after, tokens),
+        Code::Duplicate => duplicate(alloc, after),
         Code::NotLiteral => literal_case(alloc, before.last()),
         Code::BadController => controller_case(alloc, before.last()),
         _ => {
-            let words = predicate(code, before.last(), behind, tokens);
+            let words = predicate(code, before.last(), after, tokens);
             format!(in alloc; "{words}")
         }
     }

@@ -1,4 +1,4 @@
-//! What is told of a refused specification to one who wants more than the line of the refusal.
+//! What is reported for a refused specification to one who wants more than the line of the refusal.
 
 ghost use Rattle.std.specs.Prelude.{◌≡◌, ◌≤◌, length, map, IfOk, option_map, string_bytes};
 ghost use Rattle.cddl_token.specs.Answers.{span, InOrder};
@@ -19,11 +19,11 @@ use text_shown::{pointed_at, push_shown, shown_part};
 pub(crate) const NO_RULE: &str =
     "the text has no rule that could be the root, and --root names none";
 
-/// What is told of a refusal, in whole lines: the line of the refusal; the name of the file, the line and the column, and the
+/// What is reported for a refusal, in whole lines: the line of the refusal; the name of the file, the line and the column, and the
 /// name of the code; the line of the text, with marks under the part that is meant; and what is wrong with it, with what may
 /// stand in its place, or what was perhaps meant.
 ///
-/// The part is the token that begins at the offset. Where that is the end of the text, one mark stands behind the last token.
+/// The part is the token that begins at the offset. Where that is the end of the text, one mark stands after the last token.
 /// Where the text has no tokens, the marks are under the character, number or string that is wrong. Where nothing of the text
 /// is wrong, as where there is no root, one mark stands at the offset, and the sentence is that of the code.
 ///

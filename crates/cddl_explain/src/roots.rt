@@ -1,4 +1,4 @@
-//! What could be meant by a root that is none: words behind what is wrong.
+//! What could be meant by a root that is none: words after what is wrong.
 
 ghost use Rattle.std.specs.Prelude.{◌≡◌, ◌<◌, ◌==◌, ◌&&◌, drop, length, option_map, string_bytes, IfOk};
 ghost use Rattle.cddl_explain.specs.Rules.{begins_rule};

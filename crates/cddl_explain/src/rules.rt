@@ -60,15 +60,15 @@ pub(crate) fn begins_rule(tokens: &[Token<'_>], k: usize) -> bool
     requires { k < length tokens.now }
     ensures { result ≡ begins_rule (drop k tokens.now) }
 {
-    let behind = &tokens[k + 1..];
+    let after = &tokens[k + 1..];
     match head_of(tokens[k].kind) {
-        Head::Plain => assigns(behind),
-        Head::Generic => closes(behind),
+        Head::Plain => assigns(after),
+        Head::Generic => closes(after),
         Head::Other => false,
     }
 }
 
-// Whether a list of parameters ends, and an assignment comes right behind it.
+// Whether a list of parameters ends, and an assignment comes right after it.
 fn closes(tokens: &[Token<'_>]) -> bool
     ensures { result ≡ closes tokens.now }
 {

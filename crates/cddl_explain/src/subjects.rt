@@ -85,7 +85,7 @@ fn is_cause(cause: Cause, word: &str) -> bool
     word.eq_ignore_ascii_case(words(cause))
 }
 
-/// What is said of a subject, in whole lines: of a code what is wrong, which byte is told and an example, and of a cause what
+/// What is said of a subject, in whole lines: of a code what is wrong, which byte is reported and an example, and of a cause what
 /// it says, with an example.
 ///
 /// # Errors

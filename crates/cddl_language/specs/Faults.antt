@@ -167,7 +167,7 @@ pub record HasTooManyInstances (s : Specification) (root : Text) (at : ℕ) : Ty
 abbrev pub opened_there : Specification → S.Rule → List Term → S.Ref → Option Opened
 opened_there s r xs f = if is_parameter r (ref_name f) then None else opened (definitions s) (fill_ref (parameters_in r) xs (ref_of f))
 
--- C11: `~` that opens nothing, or a group where a type is demanded (section 3.7); `&` of what it cannot choose from (section
+-- C11: `~` that unwraps nothing, or a group where a type is demanded (section 3.7); `&` of what it cannot choose from (section
 -- 2.2.2.2).
 pub data HasNotUnwrappable (s : Specification) (root : Text) (at : ℕ) : Type 0 where
   opens_nothing : {r : S.Rule} {xs : List Term} {b : Bool} {t : Token} {f : S.Ref} → IsReached (rules s) root r xs (an_unwrapping b t f) → opened_there s r xs f ≡ None → at ≡ t.start → HasNotUnwrappable s root at
@@ -181,8 +181,8 @@ pub record IsRuleOnCycle (s : Specification) (root : Text) (rule : S.Rule) : Typ
   pub cycle : IsOnCycle (definitions s) root point
   pub first : first_rule (rules s) (name_of (ref_at point)) ≡ Some rule
 
--- C12: a free reference that comes back to itself. It is told at the first definition of a name on the cycle. Where the text has
--- none of any such name, as of `bytes` in `bstr = [~bytes]`, it is told at the first byte.
+-- C12: a free reference that comes back to itself. It is reported at the first definition of a name on the cycle. Where the text has
+-- none of any such name, as of `bytes` in `bstr = [~bytes]`, it is reported at the first byte.
 pub data HasRecursion (s : Specification) (root : Text) (at : ℕ) : Type 0 where
   at_rule : {r : S.Rule} → IsRuleOnCycle s root r → at ≡ name_at r → HasRecursion s root at
   without_rule : {p : Point} → IsOnCycle (definitions s) root p → ((r : S.Rule) → IsRuleOnCycle s root r → ⊥) → at ≡ 0 → HasRecursion s root at
@@ -316,7 +316,7 @@ number_of MapShape = 17
 number_of TooManyAlternatives = 18
 number_of _ = 0
 
--- The fault that is told: of the lowest code that stands anywhere, the least offset.
+-- The fault that is reported: of the lowest code that stands anywhere, the least offset.
 pub record IsRefused (s : Specification) (worth : Values) (code : Code) (at : ℕ) : Type 0 where
   pub present : IsFaultAt s worth code at
   pub lowest : (d : Code) (p : ℕ) → IsFaultAt s worth d p → number_of code ≤ number_of d

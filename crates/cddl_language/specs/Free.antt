@@ -57,7 +57,7 @@ module _ (ds : List Definition) where
       group_opened : {o : Option Text} {t : Term} {r : Ref} {g : Group} → part_of ds t ≡ opens r g → p ≡ at_unwrapping r → IsFreeInEntry p (typed o t)
       in_group : {o : Option Text} {g : Group} → IsFreeInSome p (alternatives g) → IsFreeInEntry p (grouped o g)
 
-    -- In what `&` chooses from: in the types of all entries. Through the name of a group, and through what `~` opens, it goes to
+    -- In what `&` chooses from: in the types of all entries. Through the name of a group, and through what `~` unwraps, it goes to
     -- the types of the entries there.
     pub data IsFreeInChoice (p : Point) : List Entries → Type 0 where
       of_this : {es : Entries} {ess : List Entries} → IsFreeInChosen p es → IsFreeInChoice p (es ∷ ess)

@@ -1,4 +1,4 @@
--- What `~` opens, and whether a name is a type's or a group's (RFC 8610 sections 2.2.2, 3.7 and 3.9).
+-- What `~` unwraps, and whether a name is a type's or a group's (RFC 8610 sections 2.2.2, 3.7 and 3.9).
 use Rattle.std.specs.Prelude.{ℕ, zero, suc, Bool, true, false, if◌then◌else◌, not, ◌&&◌, List, [], ◌∷◌, Option, Some, None}
 use Rattle.cddl_language.specs.Terms.{Text, Term, named, map_of, array_of, unwrapped, tagged, tagged_by, Ref, call, Group, Sign, is, type_or, group_or, Body, of_types, of_entry, Definition, term_list, stripped, name_of}
 use Rattle.cddl_language.specs.Environment.{is_in, named_so, definitions_of, is_in_prelude, is_socket, is_group_socket, most_names}
@@ -12,7 +12,7 @@ pub data Opened : Type 0 where
   opens_group : Group → Opened
   opens_type : Term → Opened
 
--- (`next`: what `~` of a name opens; ps and xs are the parameters and the arguments of the name whose body this is.)
+-- (`next`: what `~` of a name unwraps; ps and xs are the parameters and the arguments of the name whose body this is.)
 module _ (next : Ref → Option Opened) (ps : List Text) (xs : List Term) where
   abbrev pub way_through : Ref → Option Opened
   way_through r = if is_in ps (name_of r) then None else next (fill_ref ps xs r)

@@ -1,5 +1,5 @@
 -- The language of closed terms: what form of type or group each of them is (RFC 8610 sections 2 and 3). What a type then
--- says of an item is told by `Says` of `cddl_meaning`, over this language.
+-- says of an item is given by `Says` of `cddl_meaning`, over this language.
 use Rattle.std.specs.Prelude.{ℕ, ltb, Bool, true, false, if◌then◌else◌, List, [], ◌∷◌, ◌++◌, map, Option, Some, None, option_map}
 use Rattle.cbor_data.specs.Value as V
 use Rattle.cbor_data.specs.Value.{Value}
@@ -41,7 +41,7 @@ abbrev pub choice : Option (List Term) → List TypeName → Node TypeName Group
 choice (Some ts) ns = F.Choice ns
 choice None ns = nothing
 
--- what `~` opens as a type
+-- what `~` unwraps as a type
 abbrev pub content : Option Opened → Node TypeName GroupName
 content (Some (opens_type t)) = F.Ref (type t)
 content _ = nothing

@@ -1,6 +1,6 @@
 -- Written values, and the types that are one value: written, or computed from others (RFC 8610 section 3.1, RFC 9165 section 2).
 --
--- What the texts of values stand for is told by `cddl_literal`, as a relation. So what follows is said for each table of
+-- What the texts of values stand for is given by `cddl_literal`, as a relation. So what follows is said for each table of
 -- values, `worth`, and of a specification for the tables that are right for it, which agree on all that it holds.
 use Rattle.std.specs.Prelude.{◌≡◌, ℕ, zero, suc, length, if◌then◌else◌, List, [], ◌∷◌, Option, Some, None, Result, Ok, Err, Contains}
 use Rattle.cbor_data.specs.Value as V

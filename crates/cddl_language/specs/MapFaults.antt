@@ -133,7 +133,7 @@ group_between (S.array_of o g c) = Some g
 group_between _ = None
 
 module _ (rs : List S.Rule) where
-  -- Where in the text the group stands that `~` of a closed reference opens: in which rule, with which arguments. The way
+  -- Where in the text the group stands that `~` of a closed reference unwraps: in which rule, with which arguments. The way
   -- through names may go through the prelude.
   pub data StandsAt : Ref → S.Rule → List Term → S.Group → Type 0 where
     at_once : {f : Ref} {n : S.RuleName} {a : S.AssignT} {t : S.Types} {x : S.Type2} {g : S.Group} → Contains rs (S.type_rule n a t) → rule_name n ≡ name_of f → IsBare x t → group_between x ≡ Some g → StandsAt f (S.type_rule n a t) (arguments_of f) g

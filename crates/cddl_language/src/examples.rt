@@ -62,7 +62,7 @@ pub fn kinds()
     ensures in_prelude { is_group (E.also_group (codes "int") E.a_group ∷ []) (codes "int") ≡ false }
 {}
 
-/// What `~` opens: maps and tags through names and parentheses; no choice, no circle, no parameter.
+/// What `~` unwraps: maps and tags through names and parentheses; no choice, no circle, no parameter.
 pub fn unwrapping()
     ensures map { opened E.some_names (E.a_ref (codes "d")) ≡ Some (opens_group E.x_int) }
     ensures tag { opened E.some_names (E.a_ref (codes "t")) ≡ Some (opens_type E.int) }
@@ -161,7 +161,7 @@ pub fn items()
     ensures stray { (worth : Values) → Says (language worth []) (type_node worth [] (type (map_of E.x_int))) 0 (pairs (pair (text (codes "y")) (uint 1) no_pairs)) (No 1) 3 }
 {}
 
-/// In `t = &(b)`, `b = (x: t)` the choice goes through `b`, which is no reference there: recursion is told of `t` alone.
+/// In `t = &(b)`, `b = (x: t)` the choice goes through `b`, which is no reference there: recursion is reported for `t` alone.
 pub fn through_a_group()
     ensures told { (worth : Values) → IsFaultAt T.chosen_through worth Recursion 0 }
     ensures not_told { (worth : Values) → IsFaultAt T.chosen_through worth Recursion 9 → ⊥ }

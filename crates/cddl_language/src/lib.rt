@@ -148,7 +148,7 @@ pub fn maps_without_alternatives()
     ensures { (ds : List Definition) (g : Group) → map_alternatives ds g ≡ None → ((e : Entry) × IsSplicedInto ds e (alternatives g) × (LacksKey ds e ⊎ OccursBadly ds e)) ⊎ GoesThrough ds (suc most_instances) (alternatives g) }
 {}
 
-/// Once `~` has opened something, a name is a group's, a group in a map has alternatives, `&` chooses from a group, or a type is a
+/// Once `~` has unwrapped something, a name is a group's, a group in a map has alternatives, `&` chooses from a group, or a type is a
 /// literal or has the members of a `.size` or a `.bits`, ways through more names change nothing.
 pub fn more_names_change_nothing()
     ensures opened { (ds : List Definition) (k : ℕ) (r : Ref) (o : Opened) → opened_in k ds r ≡ Some o → opened_in (suc k) ds r ≡ Some o }
@@ -160,8 +160,8 @@ pub fn more_names_change_nothing()
     ensures members { (m : Membership) (worth : Values) (ds : List Definition) (k n : ℕ) → k ≤ n → (b : Behind) (rs : Sizes) → members_in m worth ds k b ≡ Some rs → members_in m worth ds n b ≡ Some rs }
 {}
 
-/// A specification is accepted or refused: of an accepted one no fault is told, of any other one, of one code at one byte. That one
-/// is told is said so: where none is, the specification is accepted.
+/// A specification is accepted or refused: of an accepted one no fault is reported, of any other one, of one code at one byte. That one
+/// is reported is said so: where none is, the specification is accepted.
 pub fn one_fault()
     ensures same { (s : Specification) (worth : Values) (c d : Code) (p q : ℕ) → IsRefused s worth c p → IsRefused s worth d q → (d ≡ c) × (q ≡ p) }
     ensures apart { (s : Specification) (worth : Values) (c : Code) (p : ℕ) → IsAccepted s worth → IsRefused s worth c p → ⊥ }
@@ -180,7 +180,7 @@ pub fn accepted_root_is_type()
     ensures { (s : Specification) (worth : Values) (root : Text) → IsAccepted s worth → root_of s ≡ Some root → is_group (definitions s) root ≡ false }
 {}
 
-/// Where anything that an instance asks leads back to itself, the fault is told of something: where no reference leads back, of a
+/// Where anything that an instance asks leads back to itself, the fault is reported for something: where no reference leads back, of a
 /// name through which a choice does.
 pub fn each_way_back_is_told()
     ensures { (ds : List Definition) (root : Text) (p : Point) → LeadsBack ds root p → ((q : Point) → IsOnCycle ds root q → ⊥) → ⊥ }

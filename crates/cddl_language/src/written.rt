@@ -12,7 +12,7 @@ ghost use Rattle.tree_nodes.specs.Syntax.Syntax.{Cddl, Lexeme, Operator, Rule, T
 ghost use Rattle.cddl_language.specs.Written.Sites.{site_lexemes};
 ghost use Rattle.cddl_language.specs.Written.Written.{AllIn, AllInEntries, AllInGroup, AllInRef, IsMeant};
 
-/// In an instance, in what it means and in what `~` of it opens, each written value is taken for what it stands for, where those
+/// In an instance, in what it means and in what `~` of it unwraps, each written value is taken for what it stands for, where those
 /// in the text are.
 pub fn reached_values()
     ensures reference { (x : Cddl) (worth : Values) → AreRight x worth → (root : Text) (r : Ref) → Reaches (definitions_in (rules_of x)) root r → AllInRef (IsMeant worth) r }

@@ -6,7 +6,7 @@ mod sums;
 pub use joins::joined;
 pub use sums::plus;
 
-/// Why two operands make no literal. Where several reasons hold, the first one in this order is told.
+/// Why two operands make no literal. Where several reasons hold, the first one in this order is reported.
 #[derive(Clone, Copy, Debug, PartialEq, Eq)]
 pub enum Fault {
     /// The left operand is not of the kind that the operator takes.

@@ -78,7 +78,7 @@ module _ {N G : Type 0} (l : Language N G) where
     pub parts : es ≡ first ++ left
     pub comes : (xs all : List (F.MapEntry N)) (base : ℕ) (rest : Pairs) (tally : M.Tally) → ComesTo l (M.next_entry (first ++ xs) (sorting_of all base place pair rest tally)) (M.next_entry xs (sorting_of all base place pair rest tally)) k
 
-  -- A pair belongs to the last of the first entries, with so many behind it, whatever entries these are.
+  -- A pair belongs to the last of the first entries, with so many after it, whatever entries these are.
   pub record BelongsBy (place : ℕ) (pair : Item × Item) (es : List (F.MapEntry N)) (after : ℕ) (answer : J.Answer) (k : ℕ) : Type 0 where
     pub first : List (F.MapEntry N)
     pub others : List (F.MapEntry N)

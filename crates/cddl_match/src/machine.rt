@@ -108,7 +108,7 @@ impl<'t, 'i> Machine<'t, 'i> {
 
     /// Takes a turn. One that answers `None` asks one question more; or tries a pair of a map, or comes to an entry that is asked
     /// about it; or counts a bit that is set; or takes the last question off, which has its reply. All but the last are steps.
-    /// Entries that a pair passes over are gone by in the turn that goes on behind them, at no step. From an answer on each turn
+    /// Entries that a pair passes over are gone by in the turn that goes on after them, at no step. From an answer on each turn
     /// answers the same.
     ///
     /// # Errors

@@ -129,7 +129,7 @@ pub(crate) fn simple_said(place: usize, said: Said) -> Said
     }
 }
 
-// What is said where a type has said yes, and an item has passed the test behind it or not.
+// What is said where a type has said yes, and an item has passed the test after it or not.
 fn such_said(place: usize, next: usize, passes: bool) -> Said
     ensures { said_view result ≡ Replied (M.such_reply place next passes) }
 {
@@ -140,7 +140,7 @@ fn such_said(place: usize, next: usize, passes: bool) -> Said
     }
 }
 
-// What is said where a type has said yes, by the test behind it. The bits that it asks about are steps, which are taken
+// What is said where a type has said yes, by the test after it. The bits that it asks about are steps, which are taken
 // before they are tested.
 pub(crate) fn test_behind(
     means: &mut Means<'_>,

@@ -234,7 +234,7 @@ fn tag_says<'i>(
     }
 }
 
-// A type is asked before the test behind it.
+// A type is asked before the test after it.
 #[inline]
 #[cycle(saying)]
 fn such_says<'i>(

@@ -1,4 +1,4 @@
--- What a reason says, as it is told.
+-- What a reason says, as it is reported.
 use Rattle.std.specs.Prelude.{Bool, true, false, List, [], ◌∷◌, ◌++◌}
 use Rattle.table_nodes.specs.declared.nodes.Content.{Content}
 use Rattle.table_nodes.specs.declared.nodes.Content.TheVariants.{OneItem, Sequence}

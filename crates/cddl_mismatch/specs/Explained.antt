@@ -1,4 +1,4 @@
--- What is told of an item that does not match the specification that a text is.
+-- What is reported for an item that does not match the specification that a text is.
 use Rattle.std.specs.Prelude.{◌≡◌, ℕ, List, [], ◌∷◌, ◌++◌, Option, Some, None, codes, map}
 use Rattle.std.specs.List.{Contains}
 use Rattle.cbor_data.specs.Value.{Value}
@@ -42,7 +42,7 @@ IsPlaceOf x chain (Some p) = (s : Sense) (table : Table) (known : AreSources s t
 IsPlaceOf x chain None = (s : Sense) (table : Table) (known : AreSources s table x) → (m : Link) → Contains chain m → IsOfNoRule (rules_of s.tree) (IsNameOfType s known.terms known.nodes) m
 
 -- Where the key that the cause names stands nowhere in the text, its link leads to what those before it lead to: of that only the
--- beginning is told.
+-- beginning is reported.
 abbrev pub IsPlaced : Sources → Reason → Option Place → Type 0
 IsPlaced x r None = IsPlaceOf x (chain_of r) None
 IsPlaced x r (Some p) = (named : Place) × (holder : Option Place) × IsPlaceOf x (chain_of r) (Some named) × IsPlaceOf x r.links.items holder × (p ≡ told_place (names_key r.cause) named holder)
@@ -90,12 +90,12 @@ pub record IsReadAs (tokens : List Token) (root : Option Text) (spec : Checked) 
   pub tree : IsTreeOf (view spec.tree) tokens
   pub checked : IsChecked (view spec.tree) root spec.root
 
--- Of a text that is refused nothing is told; where memory was refused there is no answer.
+-- Of a text that is refused nothing is reported; where memory was refused there is no answer.
 abbrev pub IsUntold : Refusal → List ℕ → Type 0
 IsUntold (RefusalV.At code at) told = told ≡ []
 IsUntold RefusalV.Memory told = ⊥
 
--- What is told of the text and the item: nothing where the text is refused, and else what its specification tells.
+-- What is reported for the text and the item: nothing where the text is refused, and else what its specification tells.
 pub data IsExplainedMismatch (text : List ℕ) (root : Option (List ℕ)) (file : List ℕ) (x : Value) (steps : ℕ) (told : List ℕ) : Type 0 where
   refused : (f : Fault) → IsWrongText text root f → told ≡ [] → IsExplainedMismatch text root file x steps told
   explained : (tokens : List Token) (spec : Checked) → AreTokensOf tokens text → IsReadAs tokens root spec → IsToldFrom text tokens file root spec x steps told → IsExplainedMismatch text root file x steps told

@@ -1,4 +1,4 @@
--- What is told where a cause names a key that stands nowhere in the text.
+-- What is reported where a cause names a key that stands nowhere in the text.
 use Rattle.std.specs.Prelude.{ℕ, Bool, ◌&&◌, nat_eq, if◌then◌else◌, List, [], Option, Some, None}
 use Rattle.cbor_data.specs.Value.{Value}
 use Rattle.cddl_meaning.specs.Forms as F

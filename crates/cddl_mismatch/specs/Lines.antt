@@ -18,7 +18,7 @@ abbrev pub written_or : List ℕ → List ℕ → List ℕ
 written_or [] other = other
 written_or (b ∷ bs) other = b ∷ bs
 
--- The line tells the name of the rule, the line and the column where the type begins, and the tokens by which it is told, or these words.
+-- The line tells the name of the rule, the line and the column where the type begins, and the tokens that show it, or these words.
 pub record IsLineAt (text : List ℕ) (tokens : List Token) (file : List ℕ) (p : Place) (found : List ℕ) (cause : Cause) (other told : List ℕ) : Type 0 where
   pub rule : List ℕ
   pub is_rule : IsPartOf text p.name rule

@@ -1,4 +1,4 @@
-//! What a reason says, as it is told.
+//! What a reason says, as it is reported.
 
 ghost use Rattle.std.specs.Prelude.{◌≡◌, ◌++◌, IfOk};
 ghost use Rattle.cddl_mismatch.specs.Causes.{chain_of, link_in, nothing_held, told_cause};

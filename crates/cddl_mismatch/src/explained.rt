@@ -15,9 +15,9 @@ use std::alloc::{AllocError, Global};
 
 /// Why the item does not match the specification that the text is (RFC 8610), with this root or that of the first rule: of each
 /// reason a line, ten at most, and how many more there are. `file` is the name of the text in these lines. Where the root is a name
-/// of the prelude, a reason whose types stand nowhere in the text is told by this name.
+/// of the prelude, a reason whose types stand nowhere in the text is reported by this name.
 ///
-/// Nothing is told where the text is refused, where the item matches, and where so many steps do not tell.
+/// Nothing is reported where the text is refused, where the item matches, and where so many steps do not tell.
 ///
 /// # Errors
 ///
@@ -64,7 +64,7 @@ fn told_by_tokens(
     }
 }
 
-// Nothing is told of a text that is refused.
+// Nothing is reported for a text that is refused.
 fn untold(alloc: Global, refusal: Refusal) -> Result<String, AllocError>
     ensures { IfOk result (λ told. IsUntold refusal (string_bytes told)) }
 {

@@ -1,4 +1,4 @@
-//! What is told where a cause names a key.
+//! What is reported where a cause names a key.
 
 ghost use Rattle.std.specs.Prelude.{◌≡◌, IfOk, option_map, string_bytes};
 ghost use Rattle.item_nodes.specs.View.{view};

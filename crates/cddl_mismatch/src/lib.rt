@@ -1,4 +1,4 @@
-//! Why an item does not match a specification, told from the text and the item alone: for each reason a line, with the place and
+//! Why an item does not match a specification, reported from the text and the item alone: for each reason a line, with the place and
 //! what is there, where in the text the type stands that says no, and what is wrong.
 #![tactic(auto)]
 

@@ -18,7 +18,7 @@ pub(crate) struct Source<'s> {
     pub(crate) root: Option<&'s str>,
 }
 
-// The line for what was found, where the type stands at this place; with the other words where nothing of it is told.
+// The line for what was found, where the type stands at this place; with the other words where nothing of it is reported.
 pub(crate) fn line_at(
     alloc: Global,
     source: Source<'_>,

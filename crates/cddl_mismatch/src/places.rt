@@ -77,7 +77,7 @@ fn words_at(
     format!(in alloc; "{path}: {value}")
 }
 
-// Puts the steps to the place behind a path.
+// Puts the steps to the place after a path.
 #[tactic(auto, using(crate::proofs::Paths::has_first, crate::proofs::Paths::steps_put, crate::proofs::Paths::no_steps_put))]
 fn push_steps(
     alloc: Global,

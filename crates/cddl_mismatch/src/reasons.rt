@@ -1,4 +1,4 @@
-//! What is told of an item, by a table and where its types stand.
+//! What is reported for an item, by a table and where its types stand.
 
 ghost use Rattle.std.specs.Prelude.{IfOk, option_map, string_bytes};
 ghost use Rattle.cddl_mismatch.specs.Explained.{IsToldBy, IsToldFrom};
@@ -12,7 +12,7 @@ use cddl_sources::{Sourced, Sources, compile_with_sources};
 use std::alloc::{AllocError, Global};
 use table_nodes::Table;
 
-// So many reasons are told at most. Some may have the same line.
+// So many reasons are reported at most. Some may have the same line.
 pub(crate) const MOST: usize = 20;
 
 // Why the item does not match the specification, if it does not.

@@ -19,7 +19,7 @@ use std::alloc::{AllocError, Global};
 use table_nodes::Table;
 use type_links::Link;
 
-// What is told of these reasons.
+// What is reported for these reasons.
 pub(crate) fn told_of(
     alloc: Global,
     source: Source<'_>,
@@ -71,7 +71,7 @@ fn reason_at(reasons: &[Reason], index: usize) -> &Reason
     }
 }
 
-// Puts the line of one reason more behind others, if it is not there already.
+// Puts the line of one reason more after others, if it is not there already.
 fn add_line(
     alloc: Global,
     source: Source<'_>,

@@ -31,7 +31,7 @@ type_of (M.OfType n p x) = L.Type n ∷ []
 type_of (M.OfGroup g base q xs) = []
 type_of (M.OfAlternative es base ps) = []
 
--- What of it is asked: the value of an entry, of which the key type is told; an alternative of a group, or an entry of such an
+-- What of it is asked: the value of an entry, of which the key type is reported; an alternative of a group, or an entry of such an
 -- alternative, by how many come after it.
 abbrev pub part_of : M.Pending TypeId GroupId → List Link
 part_of (M.InValue e es s) = L.Key e.key_type ∷ []

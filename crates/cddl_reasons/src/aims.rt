@@ -5,7 +5,7 @@ use crate::run::{Open, Wanted};
 use match_moves::{Pending, PendingMap, PendingType};
 use std::alloc::Global;
 
-/// How many reasons are told at most, and what is known of questions whose own reasons are deeper.
+/// How many reasons are reported at most, and what is known of questions whose own reasons are deeper.
 #[derive(Clone, Copy)]
 pub(crate) struct Aim<'k> {
     pub(crate) alloc: Global,

@@ -1,4 +1,4 @@
-//! What is told of an item that does not match.
+//! What is reported for an item that does not match.
 
 use table_nodes::{Content, TypeId};
 use type_links::Link;
@@ -56,9 +56,9 @@ pub struct Reason {
     pub place: usize,
     pub cause: Cause,
     /// Whether the last open question that was asked of any items is a sequence of which a part before the one that is asked now has
-    /// taken the last item, and need not have: an occurrence, which gives nothing back (RFC 8610 appendix A). That is told where the
+    /// taken the last item, and need not have: an occurrence, which gives nothing back (RFC 8610 appendix A). That is reported where the
     /// number of items leaves nothing else, whatever each part has taken; and only where each of them that matters has rounds of one
-    /// item. Of a further round that need not be it is not told.
+    /// item. Of a further round that need not be it is not reported.
     pub greedy: bool,
 }
 

@@ -1,4 +1,4 @@
-//! What is told of a question that has failed.
+//! What is reported for a question that has failed.
 
 ghost use Rattle.std.specs.Prelude.{◌≡◌, ◌++◌, ◌∷◌, ℕ, List, [], IfOk, IfSome, false, length, map, nat_eq, nat_lt, reverse};
 ghost use Rattle.std.specs.Option.{option_map};
@@ -30,7 +30,7 @@ use std::alloc::{AllocError, Global};
 use table_nodes::{Content, Group, GroupId, MapEntry, Most, Node, Table, TypeId};
 use type_links::Link;
 
-// The type that is asked, if one is, is put behind others.
+// The type that is asked, if one is, is put after others.
 fn push_type(links: &mut Vec<Link>, question: &Question<'_, '_>) -> Result<(), AllocError>
     ensures { IfOk result (λ _. links.new.items ≡ links.old.items ++ type_of (question_view question.now)) }
 {
@@ -44,7 +44,7 @@ fn push_type(links: &mut Vec<Link>, question: &Question<'_, '_>) -> Result<(), A
     }
 }
 
-// The key type of the entry whose value is asked, if one's is, is put behind others.
+// The key type of the entry whose value is asked, if one's is, is put after others.
 fn push_key(links: &mut Vec<Link>, pending: &PendingMap<'_, '_>) -> Result<(), AllocError>
     ensures { IfOk result (λ _. links.new.items ≡ links.old.items ++ part_of (pending_map_view pending.now)) }
 {
@@ -54,7 +54,7 @@ fn push_key(links: &mut Vec<Link>, pending: &PendingMap<'_, '_>) -> Result<(), A
     Ok(())
 }
 
-// The alternative of a group that is asked, or the entry of such an alternative, if one is, is put behind others.
+// The alternative of a group that is asked, or the entry of such an alternative, if one is, is put after others.
 fn push_entry(links: &mut Vec<Link>, pending: &PendingGroup<'_, '_>) -> Result<(), AllocError>
     ensures { IfOk result (λ _. links.new.items ≡ links.old.items ++ part_of (pending_group_view pending.now)) }
 {
@@ -72,7 +72,7 @@ fn push_entry(links: &mut Vec<Link>, pending: &PendingGroup<'_, '_>) -> Result<(
     }
 }
 
-// What is asked of a question, if that is told, is put behind others.
+// What is asked of a question, if that is reported, is put after others.
 fn push_part(links: &mut Vec<Link>, pending: &Pending<'_, '_>) -> Result<(), AllocError>
     ensures { IfOk result (λ _. links.new.items ≡ links.old.items ++ part_of (pending_view pending.now)) }
 {
@@ -119,7 +119,7 @@ fn content_in(node: &Node) -> Option<Content>
     }
 }
 
-// The byte string whose content the question asks about, if it does so, is put behind others.
+// The byte string whose content the question asks about, if it does so, is put after others.
 fn push_string(
     table: &Table,
     strings: &mut Vec<Holder>,
@@ -310,7 +310,7 @@ fn cause_of(table: &Table, question: &Question<'_, '_>, far: usize) -> Cause
     }
 }
 
-// Why an open question has failed at this place. Where its own reasons are deeper it is told by itself.
+// Why an open question has failed at this place. Where its own reasons are deeper it is reported by itself.
 fn cause_in(table: &Table, last: &Open<'_, '_>, far: usize) -> Cause
     ensures { IsCause (language_of table.now) (question_view last.now.question) far result }
 {

@@ -85,7 +85,7 @@ pub(crate) fn begin<'t, 'i>(
     })
 }
 
-// The last question waits below this one, whose next move is told.
+// The last question waits below this one, whose next move is reported.
 fn put_on<'t, 'i>(
     run: &mut Run<'t, 'i>,
     asked: Open<'t, 'i>,

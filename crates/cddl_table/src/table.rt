@@ -68,7 +68,7 @@ pub struct Traced {
 // parts ask for, each with a rank that is above those of what it asks of the same item. Each type comes with what it is of.
 //
 // It is given the table of terms, what is known of the instances and of the rows, ranks of what they ask, and the number of the
-// root's name. NoRoom is told where memory is refused or a number does not fit. NotRanked never comes where what is given is of
+// root's name. NoRoom is reported where memory is refused or a number does not fit. NotRanked never comes where what is given is of
 // one specification, and the root is a name of a type.
 pub(crate) fn traced_of(
     alloc: Global,

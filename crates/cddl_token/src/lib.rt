@@ -294,7 +294,7 @@ pub fn tokens<'s>(alloc: Global, source: &'s [u8]) -> Result<Vec<Token<'s>>, Ref
     ensures refused { IfErr result (λ e. Refuses source.now e) }
     // Where it has none for this reason, this is the answer, unless memory runs out.
     ensures only_refused { (code : Code) (at : ℕ) → IsRefused source.now code at → MatchResult result (λ v. ⊥) (λ e. (e ≡ Refusal.At code at) ⊎ (e ≡ Refusal.Memory)) }
-    // That a source is too long, or not UTF-8, is told without taking memory.
+    // That a source is too long, or not UTF-8, is reported without taking memory.
     ensures too_long { 1048576 < length source.now → result ≡ Err (Refusal.At Code.SourceTooLong 1048576) }
     ensures no_text { length source.now ≤ 1048576 → (IsUtf8 source.now → ⊥) → result ≡ Err (Refusal.At Code.NotUtf8 (utf8_valid_len source.now)) }
 {

@@ -52,12 +52,12 @@ wanted_root o = option_map (λ s. string_bytes s) o.root
 abbrev pub named_file : Options → List ℕ
 named_file o = word_in (option_map (λ s. string_bytes s) o.spec)
 
--- What is told of a refusal: its line, and with `--explain` also where it is and what is wrong, and what else is wrong.
+-- What is reported for a refusal: its line, and with `--explain` also where it is and what is wrong, and what else is wrong.
 pub data IsToldRefusal (o : Options) (text : List ℕ) (f : Fault) : List ℕ → Type 0 where
   line_alone : o.explain ≡ false → IsToldRefusal o text f (refusal_line f)
   with_reason : o.explain ≡ true → (told : List ℕ) → IsReason f (named_file o) text (wanted_root o) told → IsToldRefusal o text f told
 
--- The text has no table with the root that is asked for: what is wrong with it was told, and the status says so; or want of memory was.
+-- The text has no table with the root that is asked for: what is wrong with it was reported, and the status says so; or want of memory was.
 pub data IsTurnedDown (o : Options) (text : List ℕ) (error : Change) : ℕ → Type 0 where
   refused : (f : Fault) → IsWrongText text (wanted_root o) f → (told : List ℕ) → IsToldRefusal o text f told → IsSaid error told → IsTurnedDown o text error REFUSED
   no_memory : IsSaid error memory_line → IsTurnedDown o text error BROKEN
@@ -72,7 +72,7 @@ pub record IsCutOff (output : Change) (k : ℕ) : Type 0 where
   pub short : k < length accepted_line
   pub part : bytes.Appends output.before output.after (take k accepted_line)
 
--- It was told that the specification is accepted, and the status is 0; or it was told where the line was cut off.
+-- It was reported that the specification is accepted, and the status is 0; or it was reported where the line was cut off.
 pub data IsAcceptance (output error : Change) : ℕ → Type 0 where
   whole : HasNotFailed output → bytes.Appends output.before output.after accepted_line → IsAcceptance output error 0
   cut : (k : ℕ) → IsCutOff output k → IsSaid error (write_failed_line k) → IsAcceptance output error BROKEN
@@ -90,7 +90,7 @@ pub record IsCutIn (text : List ℕ) (output : Change) (k : ℕ) : Type 0 where
   pub short : k < length text
   pub part : bytes.Appends output.before output.after (take k text)
 
--- What the word names was explained; or it was told where the text was cut off, that nothing has this name, or want of memory.
+-- What the word names was explained; or it was reported where the text was cut off, that nothing has this name, or want of memory.
 pub data IsExplained (word : List ℕ) (output error : Change) : ℕ → Type 0 where
   explained : (s : Subject) → IsNameOf s word → HasNotFailed output → bytes.Appends output.before output.after (explanation_of s) → IsExplained word output error 0
   cut_short : (s : Subject) → IsNameOf s word → (k : ℕ) → IsCutIn (explanation_of s) output k → IsSaid error (write_failed_line k) → IsExplained word output error BROKEN
@@ -118,7 +118,7 @@ abbrev pub mode_of : Task → Bool → Bool → Mode
 mode_of Rewrite quiet deterministic = rewrite_mode_of deterministic
 mode_of task quiet deterministic = report_mode_of quiet
 
--- what is told of an end on standard error: its line, where items are rewritten
+-- what is reported for an end on standard error: its line, where items are rewritten
 abbrev pub told_of : Task → End → Option Value → List ℕ
 told_of Rewrite end rejected = end_line end rejected
 told_of task end rejected = []
@@ -129,7 +129,7 @@ fault_line (ReadFailed items) = read_failed_line items
 fault_line (WriteFailed bytes) = write_failed_line bytes
 fault_line (Memory items) = memory_line
 
--- The whole output of the stream went out, its end was told, and the status is that of its end.
+-- The whole output of the stream went out, its end was reported, and the status is that of its end.
 pub record IsAnswered (o : Options) (judge : Judge) (stream : List ℕ) (output error : Change) (status : ℕ) : Type 0 where
   pub end : End
   pub rejected : Option Value
@@ -137,7 +137,7 @@ pub record IsAnswered (o : Options) (judge : Judge) (stream : List ℕ) (output 
   pub told : IsSaid error (told_of o.task end rejected)
   pub is : status ≡ status_for end
 
--- Why there is no such status, and the line that was told: the run stopped early, or it is whole and there was no memory for
+-- Why there is no such status, and the line that was reported: the run stopped early, or it is whole and there was no memory for
 -- the line of its end.
 pub data IsBroken (o : Options) (judge : Judge) (input output error : Change) : Type 0 where
   stopped : (fault : RunFault) → IsFault (mode_of o.task o.quiet o.deterministic) judge (limits_of o) input output fault → IsSaid error (fault_line fault) → IsBroken o judge input output error

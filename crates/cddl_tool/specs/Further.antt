@@ -1,4 +1,4 @@
--- What is told of a refusal to one who wants more than its line: of the first fault, and of those besides.
+-- What is reported for a refusal to one who wants more than its line: of the first fault, and of those besides.
 use Rattle.std.specs.Prelude.{◌≡◌, ℕ, List, [], ◌∷◌, ◌++◌, Option}
 use Rattle.cddl_token.specs.declared.Refusal.TheVariants.{At}
 use Rattle.check_text.specs.declared.fault.Fault.{Fault}

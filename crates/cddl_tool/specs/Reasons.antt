@@ -1,4 +1,4 @@
--- What is told of an item that does not match to one who wants it explained.
+-- What is reported for an item that does not match to one who wants it explained.
 use Rattle.std.specs.Prelude.{◌≡◌, ℕ, ◌⊎◌, if◌then◌else◌, List, [], ◌++◌, Option, Some, None, IfSome}
 use Rattle.cbor_data.specs.Value.{Value}
 use Rattle.cddl_mismatch.specs.Explained.{IsExplainedMismatch}
@@ -11,7 +11,7 @@ use Rattle.command_line.specs.declared.status.TheConstants.{BROKEN}
 use Rattle.command_line.specs.Lines.{memory_line}
 use Rattle.cddl_tool.specs.Acting.{limits_of, mode_of, named_file, specification_of, status_for, told_of, wanted_root, IsBroken, IsSaid}
 
--- the text that reasons are told from: none where they are not wanted
+-- the text that reasons are determined from: none where they are not wanted
 abbrev pub wanted_text : Options → List ℕ → Option (List ℕ)
 wanted_text o text = if o.explain then Some (specification_of o.task text) else None
 
@@ -25,13 +25,13 @@ abbrev pub AreWanted : (text : Option (List ℕ)) → (rejected : Option Value) 
 AreWanted (Some text) (Some x) = Unit {0}
 AreWanted _ _ = ⊥
 
--- What is told of the end was told, with the reasons behind it, and the status is its own; or there was no memory for that, and
--- that was told.
+-- What is reported for the end was reported, with the reasons after it, and the status is its own; or there was no memory for that, and
+-- that was reported.
 pub data IsTold (o : Options) (text : Option (List ℕ)) (end : End) (rejected : Option Value) (error : Change) : ℕ → Type 0 where
   told : (reasons : List ℕ) → AreReasons o text rejected reasons → IsSaid error (told_of o.task end rejected ++ reasons) → IsTold o text end rejected error (status_for end)
   no_memory : (o.task ≡ Rewrite) ⊎ AreWanted text rejected → IsSaid error memory_line → IsTold o text end rejected error BROKEN
 
--- As IsAnswered, with the reasons behind what is told of the end.
+-- As IsAnswered, with the reasons after what is reported for the end.
 pub record IsAnsweredWith (o : Options) (judge : Judge) (text : Option (List ℕ)) (stream : List ℕ) (output error : Change) (status : ℕ) : Type 0 where
   pub end : End
   pub rejected : Option Value
@@ -41,7 +41,7 @@ pub record IsAnsweredWith (o : Options) (judge : Judge) (text : Option (List ℕ
   pub told : IsSaid error (told_of o.task end rejected ++ reasons)
   pub is : status ≡ status_for end
 
--- As IsBroken; or the run is whole, and there was no memory for the reasons why its last item does not match, and that was told.
+-- As IsBroken; or the run is whole, and there was no memory for the reasons why its last item does not match, and that was reported.
 pub data IsBrokenWith (o : Options) (judge : Judge) (text : Option (List ℕ)) (input output error : Change) : Type 0 where
   as_ever : IsBroken o judge input output error → IsBrokenWith o judge text input output error
   unexplained : (rejected : Option Value) → AreWanted text rejected → IfSome input.before (λ stream. (end : End) × WritesAll (mode_of o.task o.quiet o.deterministic) judge (limits_of o) stream output end rejected) →

@@ -110,7 +110,7 @@ fn say_refused<E: Write>(
     }
 }
 
-// What is told of a text that is refused: one text, which is written in one piece.
+// What is reported for a text that is refused: one text, which is written in one piece.
 #[tactic(auto, using(crate::proofs::Refusing::told_line, crate::proofs::Refusing::told_reason))]
 fn told_of_refusal(
     alloc: Global,
@@ -169,7 +169,7 @@ pub(crate) fn specification_for(task: Task, spec: &[u8]) -> &[u8]
 ///   where there is no such code or cause, with a line on `err`.
 ///
 /// Where a read, a write or an allocation fails the status is [`BROKEN`], with a line on `err`. Why an item does not match is
-/// told by [`act_watched`](crate::act_watched) alone, which has the text.
+/// reported by [`act_watched`](crate::act_watched) alone, which has the text.
 pub fn act<R: Read, W: Write, E: Write>(
     alloc: Global,
     options: &Options,

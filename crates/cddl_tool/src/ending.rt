@@ -1,4 +1,4 @@
-//! What is told of the end of a stream: its line, where items are rewritten, and why an item does not match, where that is
+//! What is reported for the end of a stream: its line, where items are rewritten, and why an item does not match, where that is
 //! wanted.
 
 ghost use Rattle.std.specs.Prelude.{◌≡◌, ◌≢◌, ◌++◌, ℕ, List, [], IfErr, IfOk, option_copied, option_map, string_bytes};
@@ -15,7 +15,7 @@ use seq_run::{End, end_line};
 use std::alloc::{AllocError, Global};
 use std::io::Write;
 
-// The text that reasons are told from: none where they are not wanted.
+// The text that reasons are determined from: none where they are not wanted.
 pub(crate) fn wanted_text<'s>(options: &Options, text: &'s [u8]) -> Option<&'s [u8]>
     ensures { option_map (λ t. t.now) result ≡ wanted_text options.now text.now }
 {
@@ -26,7 +26,7 @@ pub(crate) fn wanted_text<'s>(options: &Options, text: &'s [u8]) -> Option<&'s [
     }
 }
 
-// Says what is told of the end of a stream, and answers the status.
+// Says what is reported for the end of a stream, and answers the status.
 pub(crate) fn tell_end<E: Write>(
     alloc: Global,
     options: &Options,
@@ -69,7 +69,7 @@ fn tell_line<E: Write>(
     }
 }
 
-// The line of the end, and the reasons behind it: one text, which is written in one piece.
+// The line of the end, and the reasons after it: one text, which is written in one piece.
 fn line_with_reasons(
     alloc: Global,
     options: &Options,

@@ -1,4 +1,4 @@
-//! What is told of a refusal to one who wants more than its line.
+//! What is reported for a refusal to one who wants more than its line.
 
 ghost use Rattle.std.specs.Prelude.{◌≡◌, ◌<◌, IfOk, Some, length, option_map, slice_get, string_bytes};
 ghost use Rattle.cddl_explain.specs.Further.{AreFurther};
@@ -10,10 +10,10 @@ use check_faults::{Listed, text_faults};
 use check_text::Fault;
 use std::alloc::{AllocError, Global};
 
-// How many faults of one code are told.
+// How many faults of one code are reported.
 pub(crate) const MOST: usize = 20;
 
-// What is told of the first fault, and then of those besides: in the whole text, or in what its root reaches.
+// What is reported for the first fault, and then of those besides: in the whole text, or in what its root reaches.
 pub(crate) fn explained(
     alloc: Global,
     fault: Fault,
@@ -29,7 +29,7 @@ pub(crate) fn explained(
     format!(in alloc; "{first}{besides}")
 }
 
-// What is told of these faults, but for the first one.
+// What is reported for these faults, but for the first one.
 fn besides(
     alloc: Global,
     fault: Fault,
@@ -59,7 +59,7 @@ fn listed_at(faults: &[Listed], index: usize) -> &Listed
     }
 }
 
-// What is told of the faults of one code.
+// What is reported for the faults of one code.
 fn of_code(
     alloc: Global,
     fault: Fault,

@@ -20,7 +20,7 @@ use table_nodes::Table;
 /// shows is taken away before anything is written to `err`.
 ///
 /// Where an item does not match and the options want it explained, [`explained_mismatch`](cddl_mismatch::explained_mismatch)
-/// tells why, from the text: on `err`, behind the line of the end where that goes there too, in one write. Where an allocation
+/// tells why, from the text: on `err`, after the line of the end where that goes there too, in one write. Where an allocation
 /// for that is refused the status is [`BROKEN`], and only the line that says so is on `err`.
 pub fn act_watched<R: Read, W: Write, E: Write, P: Screen>(
     alloc: Global,

@@ -70,6 +70,6 @@ abbrev pub rules_in : State → Option (Vec Rule Global)
 rules_in (St.Done rs end) = Some rs
 rules_in _ = None
 
--- what is told of a token is what is read there
+-- what is reported for a token is what is read there
 abbrev pub IsRead : (Leaf → Token) → Current → Type 0
 IsRead read t = ((read t.leaf).kind ≡ t.kind) × ((read t.leaf).start ≡ t.start)

@@ -84,12 +84,12 @@ pub data IsChecked (text root : List ℕ) (refusal : CddlseqRefusal) : ℕ → T
   accepted : (table : Table) → IsTabledText text (root_name root) table → refusal ≡ no_refusal → IsChecked text root refusal OK
   unchecked : (why : Stop) → IsUntabled text root why → IsStopTold text why refusal → IsChecked text root refusal (status_of_stop why)
 
--- The stream has an end, and it is told; or memory was refused, and nothing is told.
+-- The stream has an end, and it is reported; or memory was refused, and nothing is reported.
 pub data IsToldEnd (judge : Judge) (l : Bounds) (stream : List ℕ) (old new : CddlseqEnd) : ℕ → Type 0 where
   end_told : (end : End) → HasEnd judge l stream end → new ≡ told_end end → IsToldEnd judge l stream old new (status_of end)
   end_untold : new ≡ old → IsToldEnd judge l stream old new NO_MEMORY
 
--- What `cddlseq_validate` answers: by a table that stands for the text the stream ends as is told; or this is why nothing is
+-- What `cddlseq_validate` answers: by a table that stands for the text the stream ends as is reported; or this is why nothing is
 -- said of the stream.
 pub data IsValidated (text root stream : List ℕ) (limits : CddlseqLimits) (refusal : CddlseqRefusal) (old new : CddlseqEnd) : ℕ → Type 0 where
   validated : (table : Table) → IsTabledText text (root_name root) table → refusal ≡ no_refusal → (status : ℕ) →
@@ -101,8 +101,8 @@ abbrev pub IsPut : Bool → List ℕ → List ℕ → List ℕ → Type 0
 IsPut true bytes old new = (length bytes ≤ length old) × (new ≡ bytes ++ drop (length bytes) old)
 IsPut false bytes old new = (length old < length bytes) × (new ≡ old)
 
--- The end is told, how many bytes are wanted of the stream, and these, where there is room for them; or memory was refused,
--- and nothing is told.
+-- The end is reported, how many bytes are wanted of the stream, and these, where there is room for them; or memory was refused,
+-- and nothing is reported.
 pub data IsToldWanted (wanted : Wanted) (judge : Judge) (l : Bounds) (stream : List ℕ) (old new : CddlseqEnd) (out_old out_new : List ℕ) (needed : ℕ) : ℕ → Type 0 where
   put : (bytes : List ℕ) (end : End) → IsWanted wanted judge l stream bytes end → new ≡ told_end end → needed ≡ length bytes → IsPut true bytes out_old out_new →
       IsToldWanted wanted judge l stream old new out_old out_new needed (status_of end)
@@ -110,7 +110,7 @@ pub data IsToldWanted (wanted : Wanted) (judge : Judge) (l : Bounds) (stream : L
       IsToldWanted wanted judge l stream old new out_old out_new needed NO_ROOM
   wanted_untold : new ≡ old → needed ≡ 0 → out_new ≡ out_old → IsToldWanted wanted judge l stream old new out_old out_new needed NO_MEMORY
 
--- What `cddlseq_write` answers: by a table that stands for the text, this is told of the stream, and what is wanted by the
+-- What `cddlseq_write` answers: by a table that stands for the text, this is reported for the stream, and what is wanted by the
 -- number is written; or this is why nothing is.
 pub data IsWritten (text root stream : List ℕ) (limits : CddlseqLimits) (number : ℕ) (refusal : CddlseqRefusal) (old new : CddlseqEnd) (out_old out_new : List ℕ) (needed : ℕ) : ℕ → Type 0 where
   written : (table : Table) (wanted : Wanted) → number ≡ number_of_wanted wanted → IsTabledText text (root_name root) table → refusal ≡ no_refusal → (status : ℕ) →
@@ -121,7 +121,7 @@ pub data IsWritten (text root stream : List ℕ) (limits : CddlseqLimits) (numbe
   unwritten : (why : Stop) → IsStop limits text root why → IsStopTold text why refusal → new ≡ old → needed ≡ 0 → out_new ≡ out_old →
       IsWritten text root stream limits number refusal old new out_old out_new needed (status_of_stop why)
 
--- What is told of a stream and of what is wanted of it by a number: this, and what is wanted is written; or nothing is wanted by it.
+-- What is reported for a stream and of what is wanted of it by a number: this, and what is wanted is written; or nothing is wanted by it.
 pub data IsWrittenBy (number : ℕ) (judge : Judge) (l : Bounds) (stream : List ℕ) (old new : CddlseqEnd) (out_old out_new : List ℕ) (needed : ℕ) : ℕ → Type 0 where
   by_number : (wanted : Wanted) → number ≡ number_of_wanted wanted → (status : ℕ) → IsToldWanted wanted judge l stream old new out_old out_new needed status →
       IsWrittenBy number judge l stream old new out_old out_new needed status
@@ -132,26 +132,26 @@ pub record IsStream (bytes offsets : List ℕ) (k : ℕ) : Type 0 where
   pub rises : slice_index offsets k ≤ slice_index offsets (k + 1)
   pub within : slice_index offsets (k + 1) ≤ length bytes
 
--- Stream k ends as is told at its place.
+-- Stream k ends as is reported at its place.
 pub record IsToldAt (judge : Judge) (l : Bounds) (bytes offsets : List ℕ) (ends : List CddlseqEnd) (k : ℕ) : Type 0 where
   pub stream : IsStream bytes offsets k
   pub end : End
   pub is : HasEnd judge l (slice_range bytes (slice_index offsets k) (slice_index offsets (k + 1))) end
   pub told : slice_get ends k ≡ Some (told_end end)
 
--- The ends of the first n streams are told, and the other places are as they were.
+-- The ends of the first n streams are reported, and the other places are as they were.
 pub record AreTold (judge : Judge) (l : Bounds) (bytes offsets : List ℕ) (old new : List CddlseqEnd) (n : ℕ) : Type 0 where
   pub told : (k : ℕ) → k < n → IsToldAt judge l bytes offsets new k
   pub kept : drop n new ≡ drop n old
   pub within : n ≤ length new
 
--- All streams have an end, and it is told; or only of the first n, and the next one is none, or memory was refused there.
+-- All streams have an end, and it is reported; or only of the first n, and the next one is none, or memory was refused there.
 pub data IsToldMany (judge : Judge) (l : Bounds) (bytes offsets : List ℕ) (old new : List CddlseqEnd) (n : ℕ) : ℕ → Type 0 where
   all_told : AreTold judge l bytes offsets old new n → n ≡ length new → IsToldMany judge l bytes offsets old new n OK
   bad_stream : AreTold judge l bytes offsets old new n → n < length new → ¬ (IsStream bytes offsets n) → IsToldMany judge l bytes offsets old new n BAD_OFFSETS
   rest_untold : AreTold judge l bytes offsets old new n → n < length new → IsToldMany judge l bytes offsets old new n NO_MEMORY
 
--- What `cddlseq_validate_many` answers: by a table that stands for the text the streams end as is told; or this is why nothing
+-- What `cddlseq_validate_many` answers: by a table that stands for the text the streams end as is reported; or this is why nothing
 -- is said of them.
 pub data AreValidated (text root bytes offsets : List ℕ) (limits : CddlseqLimits) (refusal : CddlseqRefusal) (old new : List CddlseqEnd) (n : ℕ) : ℕ → Type 0 where
   all_validated : (table : Table) → length offsets ≡ length old + 1 → IsTabledText text (root_name root) table → refusal ≡ no_refusal → (status : ℕ) →

@@ -1,4 +1,4 @@
--- What is told of a refusal to one who wants more than its numbers, and of what a word names.
+-- What is reported for a refusal to one who wants more than its numbers, and of what a word names.
 use Rattle.std.specs.Prelude.{ℕ, ◌≡◌, ◌≢◌, true, false, List, length, IsUtf8}
 use Rattle.cddl_explain.specs.Refusals.{IsExplainedRefusal}
 use Rattle.cddl_explain.specs.Subjects.{IsNameOf, explanation_of}

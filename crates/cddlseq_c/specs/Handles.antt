@@ -37,7 +37,7 @@ IsMadeBy made_of held old new = IsAnsweredBy held (λ h. IsMade (made_of h) old 
 abbrev pub IsValidatedBy : Option Held → List ℕ → CddlseqEnd → CddlseqEnd → ℕ → Type 0
 IsValidatedBy held stream old new = IsAnsweredBy held (λ h. IsToldEnd (judge_of h.table h.steps) h.limits stream old new) (new ≡ old)
 
--- that nothing is told of a stream, and nothing is written
+-- that nothing is reported for a stream, and nothing is written
 pub record IsUntold (old new : CddlseqEnd) (out_old out_new : List ℕ) (needed : ℕ) : Type 0 where
   pub end : new ≡ old
   pub out : out_new ≡ out_old

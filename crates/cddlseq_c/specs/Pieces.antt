@@ -38,8 +38,8 @@ abbrev pub status_after : End → ℕ
 status_after (Clean items bytes) = ENDED
 status_after (Failed items offset why) = FAILED
 
--- What is told of a step, which leaves the session so: how many bytes of the piece are done with, and what was taken so far, or the
--- end. Where memory was refused nothing is told.
+-- What is reported for a step, which leaves the session so: how many bytes of the piece are done with, and what was taken so far, or the
+-- end. Where memory was refused nothing is reported.
 abbrev pub IsStepTold : Result Step AllocError → Progress → List ℕ → ℕ → CddlseqEnd → CddlseqEnd → ℕ → Type 0
 IsStepTold (Ok step.More) now piece used old told status = (status ≡ OK) × (used ≡ length piece) × IsSoFar now told
 IsStepTold (Ok (step.Item n x)) now piece used old told status = (status ≡ ITEM) × (used ≡ n) × IsSoFar now told
@@ -60,13 +60,13 @@ pub record IsFedTo (before now : Fed) (piece : List ℕ) (used : ℕ) (old told 
   pub is_told : IsStepTold answer now.progress piece used old told status
   pub item : now.item ≡ item_told answer
 
--- what is told of a piece that was fed whole
+-- what is reported for a piece that was fed whole
 abbrev pub IsStateTold : Result State AllocError → Progress → CddlseqEnd → CddlseqEnd → ℕ → Type 0
 IsStateTold (Ok state.Open) now old told status = (status ≡ OK) × IsSoFar now told
 IsStateTold (Ok (state.Ended end)) now old told status = (status ≡ status_after end) × (told ≡ told_end end)
 IsStateTold (Err e) now old told status = (status ≡ NO_MEMORY) × (told ≡ old)
 
--- What `cddlseq_feed_all` answers: the session takes the whole piece, and this is told. No item is kept.
+-- What `cddlseq_feed_all` answers: the session takes the whole piece, and this is reported. No item is kept.
 pub record IsFedAll (before now : Fed) (piece : List ℕ) (old told : CddlseqEnd) (status : ℕ) : Type 0 where
   pub answer : Result State AllocError
   pub fed : IsAnswer before.progress.stopped before.progress piece answer now.progress
@@ -77,7 +77,7 @@ abbrev pub IsFinishTold : Result End AllocError → CddlseqEnd → CddlseqEnd �
 IsFinishTold (Ok end) old told status = (status ≡ status_of end) × (told ≡ told_end end)
 IsFinishTold (Err e) old told status = (status ≡ NO_MEMORY) × (told ≡ old)
 
--- What `cddlseq_finish` answers: the stream ends, and its end is told; or memory was refused before, and nothing is told. The item
+-- What `cddlseq_finish` answers: the stream ends, and its end is reported; or memory was refused before, and nothing is reported. The item
 -- that was kept stays.
 pub record IsFinished (before now : Fed) (old told : CddlseqEnd) (status : ℕ) : Type 0 where
   pub answer : Result End AllocError
@@ -104,7 +104,7 @@ pub record IsShownPlace (text : Option ℕ → Option Value → List ℕ) (p : P
   pub lent : IsLent p.stopped p rejected
   pub are : bytes ≡ text (mismatch_at p.stopped) rejected
 
--- These bytes show the place of a mismatch, or the item that was told last, and they are none where there is none.
+-- These bytes show the place of a mismatch, or the item that was reported last, and they are none where there is none.
 abbrev pub Shows : Shown → Fed → List ℕ → Type 0
 Shows shown.Path f bytes = IsShownPlace path_to f.progress bytes
 Shows shown.Notation f bytes = IsShownPlace notation_at f.progress bytes

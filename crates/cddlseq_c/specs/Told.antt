@@ -1,4 +1,4 @@
--- What is told of a text and of a stream, by numbers.
+-- What is reported for a text and of a stream, by numbers.
 use Rattle.std.specs.Prelude.{ℕ, ◌≡◌, List, take}
 use Rattle.cbor_data.specs.Faults.{Bounds}
 use Rattle.cbor_data.specs.declared.FaultKind.{FaultKind}
@@ -72,7 +72,7 @@ place_of_cause (cause.Fault f) = f.at
 place_of_cause (cause.Mismatch place) = place
 place_of_cause cause.Spent = 0
 
--- what is told of the end of a stream
+-- what is reported for the end of a stream
 abbrev pub told_end : End → CddlseqEnd
 told_end (end.Clean items bytes) = record { items = items; offset = bytes; cause = 0; place = 0 }
 told_end (end.Failed items offset why) = record { items = items; offset = offset; cause = number_of_cause why; place = place_of_cause why }
@@ -81,17 +81,17 @@ abbrev pub status_of : End → ℕ
 status_of (end.Clean items bytes) = OK
 status_of (end.Failed items offset why) = FAILED
 
--- what is told of a text that is not refused
+-- what is reported for a text that is not refused
 abbrev pub no_refusal : CddlseqRefusal
 no_refusal = record { code = 0; offset = 0; line = 0; column = 0 }
 
--- What is told of what is wrong with a text: the number of its code, its byte, and the line and the column of that.
+-- What is reported for what is wrong with a text: the number of its code, its byte, and the line and the column of that.
 pub record IsFaultTold (text : List ℕ) (f : Fault) (told : CddlseqRefusal) : Type 0 where
   pub code : told.code ≡ number_of_code f.code
   pub offset : told.offset ≡ f.at
   pub position : IsAt (take f.at text) told.line told.column
 
--- What is told where a call that was given this text stops.
+-- What is reported where a call that was given this text stops.
 abbrev pub IsStopTold : List ℕ → Stop → CddlseqRefusal → Type 0
 IsStopTold text (stop.Refused f) told = IsFaultTold text f told
 IsStopTold text stop.Memory told = told ≡ no_refusal

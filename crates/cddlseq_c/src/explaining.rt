@@ -49,7 +49,7 @@ pub extern "C" fn cddlseq_explain(
     }
 }
 
-/// Writes what is said of the code or the cause that a word names: of a code what is wrong, which byte is told and an example, and
+/// Writes what is said of the code or the cause that a word names: of a code what is wrong, which byte is reported and an example, and
 /// of a cause what it says, with an example.
 #[unsafe(no_mangle)]
 pub extern "C" fn cddlseq_explain_word(

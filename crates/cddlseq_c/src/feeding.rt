@@ -1,4 +1,4 @@
-//! A stream that comes in pieces, what is told of it, and what is shown of it.
+//! A stream that comes in pieces, what is reported for it, and what is shown of it.
 
 ghost use Rattle.std.specs.Prelude.{◌≡◌, ◌≢◌, [], None, IfNone, IfOk, IfSome, option_copied};
 ghost use Rattle.cddlseq_c.specs.Pieces.{IsFedAll, IsFedTo, IsFinished, IsShownBy, IsShownPlace, IsSoFar, Shows, number_of_shown, status_after};
@@ -22,7 +22,7 @@ pub(crate) enum Shown {
     Path,
     /// What is there, in diagnostic notation.
     Notation,
-    /// The item that was told last, in preferred encoding.
+    /// The item that was reported last, in preferred encoding.
     Preferred,
     /// The same item, in deterministic encoding.
     Deterministic,

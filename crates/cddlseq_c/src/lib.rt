@@ -115,7 +115,7 @@ pub extern "C" fn cddlseq_write(
 }
 
 /// Says how each of many streams ends by one text, which is read once. Stream k has the bytes from offset k up to offset
-/// k + 1. `done` is how many were told.
+/// k + 1. `done` is how many were reported.
 #[unsafe(no_mangle)]
 pub extern "C" fn cddlseq_validate_many(
     alloc: Global,

@@ -129,7 +129,7 @@ pub extern "C" fn cddlseq_finish(
 }
 
 /// Writes what a number asks for of a stream that comes in pieces: of the mismatch by which it has ended the path of its place, or
-/// what is there; or the item that the last call of [`cddlseq_feed`] told, in preferred or in deterministic encoding. The session
+/// what is there; or the item that the last call of [`cddlseq_feed`] reported, in preferred or in deterministic encoding. The session
 /// holds what it held.
 #[unsafe(no_mangle)]
 pub extern "C" fn cddlseq_show(

@@ -56,7 +56,7 @@ pub const BAD_FILE: u32 = 13;
 /// The word names no code and no cause.
 pub const BAD_WORD: u32 = 14;
 
-/// What is told of a text.
+/// What is reported for a text.
 #[repr(C)]
 #[derive(Clone, Copy)]
 pub struct CddlseqRefusal {
@@ -70,7 +70,7 @@ pub struct CddlseqRefusal {
     pub column: usize,
 }
 
-/// What is told of a stream.
+/// What is reported for a stream.
 #[repr(C)]
 #[derive(Clone, Copy)]
 pub struct CddlseqEnd {
@@ -96,7 +96,7 @@ pub struct CddlseqLimits {
     pub steps: u64,
 }
 
-// What is told of a text that is not refused.
+// What is reported for a text that is not refused.
 pub(crate) const NO_REFUSAL: CddlseqRefusal = CddlseqRefusal {
     code: 0,
     offset: 0,
@@ -121,7 +121,7 @@ pub(crate) fn tell_stop(text: &[u8], why: Stop, told: &mut CddlseqRefusal) -> u3
     }
 }
 
-// What is told of what is wrong with a text.
+// What is reported for what is wrong with a text.
 fn told_fault(text: &[u8], fault: Fault) -> CddlseqRefusal
     ensures { IsFaultTold text.now fault result }
 {
@@ -134,7 +134,7 @@ fn told_fault(text: &[u8], fault: Fault) -> CddlseqRefusal
     }
 }
 
-// What is told of an end.
+// What is reported for an end.
 pub(crate) fn told_end(end: &End) -> CddlseqEnd
     ensures { result ≡ told_end_of end.now }
 {

@@ -23,7 +23,7 @@ use tree_nodes::Tree;
 
 /// The faults of a text whose tokens have a tree, code by code: those that stand in the whole text, whatever its root reaches
 /// (C1 to C9), and then, where none of C1 to C10 stands, those of what its root reaches (C11 to C18). Of each code at most so
-/// many are told, and how many there are besides. The root is the given name, or that of the first rule. Of any other text the
+/// many are reported, and how many there are besides. The root is the given name, or that of the first rule. Of any other text the
 /// list is empty: such a text has one fault alone.
 ///
 /// It takes a time of n log n for a text of n bytes, and for what its root reaches the time and the memory of

@@ -1,4 +1,4 @@
-//! What `~` of each instance of a specification opens, and whether an entry's type is a type or a group, by rows of a table.
+//! What `~` of each instance of a specification unwraps, and whether an entry's type is a type or a group, by rows of a table.
 mod endings;
 pub mod laws;
 mod links;

@@ -20,7 +20,7 @@ use Rattle.check_literals.specs.Literals.{literal_at, fault_at, computed_fault}
 use Rattle.check_literals.specs.Needs.{Need, nothing, written, inside, choice, both, parts}
 use Rattle.check_literals.specs.Written.{written_at}
 
--- what is told through so many names takes as many at least
+-- what is reported through so many names takes as many at least
 abbrev pub within : ℕ → ℕ → Option Meaning → Option Meaning
 within names k v = if nat_le names k then v else None
 
@@ -64,7 +64,7 @@ pub record IsSound (count : ℕ) (s : Progress) : Type 0 where
   pub places : (n i : ℕ) → slice_get s.literals.rows.items n ≡ Some (OutcomeV.Value i) → i < length s.literals.values.items
   pub few : (n : ℕ) → names_at s n ≤ most_instances
 
--- what is told of a row that needs this, where `s` is told of the other rows (`v`: its literal through so many names)
+-- what is reported for a row that needs this, where `s` is reported for the other rows (`v`: its literal through so many names)
 abbrev pub IsTold : Table → Need → (s : ℕ → ℕ → Option Meaning) (v : ℕ → Option Meaning) → Option Fault → Type 0
 IsTold t nothing s v f = (k : ℕ) → v k ≡ None
 IsTold t (written n) s v f = (w : L.Literal) → written_at t n ≡ Some w → (k : ℕ) → Answers (Means w) (v k)
@@ -124,7 +124,7 @@ pub record IsOrdered (needs : List Need) (order : List ℕ) : Type 0 where
   pub once : (i j a : ℕ) → slice_get order i ≡ Some a → slice_get order j ≡ Some a → i ≡ j
   pub after : (i a b : ℕ) (d : Need) → slice_get order i ≡ Some a → slice_get needs a ≡ Some d → Contains (parts d) b → b < length needs → (j : ℕ) × (j < i) × (slice_get order j ≡ Some b)
 
--- So many rows of the order are told, and nothing of others.
+-- So many rows of the order are reported, and nothing of others.
 pub record AreTold (t : Table) (needs : List Need) (order : List ℕ) (count : ℕ) (s : Progress) : Type 0 where
   pub sound : IsSound (length needs) s
   pub told : (i n : ℕ) (d : Need) → i < count → slice_get order i ≡ Some n → slice_get needs n ≡ Some d → IsTold t d (value_within s) (value_within s n) (fault_at s.literals n)

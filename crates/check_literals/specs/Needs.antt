@@ -1,4 +1,4 @@
--- What the literal of a row is told from, by the form of the row.
+-- What the literal of a row is determined from, by the form of the row.
 use Rattle.std.specs.Prelude.{◌≡◌, ℕ, length, Bool, false, if◌then◌else◌, List, [], ◌∷◌, Option, Some, None, slice_get}
 use Rattle.cddl_language.specs.Controls.{Computation, Control, computation_in, control_of}
 use Rattle.cddl_language.specs.Terms.{Text}

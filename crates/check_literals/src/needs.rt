@@ -1,4 +1,4 @@
-//! What the literals of rows are told from.
+//! What the literals of rows are determined from.
 
 ghost use Rattle.std.specs.Prelude.{◌≡◌, IfOk, map, length, slice_get, option_map};
 ghost use Rattle.cddl_language.specs.Controls.{computation_in};
@@ -12,7 +12,7 @@ use check_terms::texts::{Computation, Control, control_of};
 use check_terms::{Form, Row, Terms};
 use std::alloc::{AllocError, Global};
 
-/// What the literal of a row is told from.
+/// What the literal of a row is determined from.
 #[derive(Clone, Copy)]
 pub(crate) enum Need {
     /// The row is no literal.
@@ -27,7 +27,7 @@ pub(crate) enum Need {
     Both(Computation, u32, u32),
 }
 
-// What each row's literal is told from.
+// What each row's literal is determined from.
 pub(crate) fn needs_of(
     alloc: Global,
     terms: &Terms<'_>,

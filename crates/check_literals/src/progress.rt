@@ -18,7 +18,7 @@ const BYTES: u64 = 4 << 20;
 /// For how many of these bytes each row gives room.
 const BYTES_OF_A_ROW: u64 = 64;
 
-// What the rows of the order are, each told from those before it that it needs. Nothing is told of other rows.
+// What the rows of the order are, each determined from those before it that it needs. Nothing is reported for other rows.
 pub(crate) fn progress_of(
     alloc: Global,
     terms: &Terms<'_>,

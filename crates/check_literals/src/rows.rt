@@ -24,7 +24,7 @@ use std::alloc::{AllocError, Global};
 
 /// The literals that the types of a specification are, by the rows of its table: a written value, what `.plus`, `.cat` and
 /// `.det` compute from two literals, and the same through parentheses and through names of types that have one choice
-/// (RFC 8610 section 3.1, RFC 9165 section 2). What comes back to itself is none, and so is what is told through more names
+/// (RFC 8610 section 3.1, RFC 9165 section 2). What comes back to itself is none, and so is what is reported through more names
 /// than there may be instances.
 ///
 /// The time is n log n in rows, and linear in the bytes of the literals. The memory is a few numbers for each row, and the bytes

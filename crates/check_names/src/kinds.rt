@@ -1,4 +1,4 @@
-//! Which names are groups, and what `~` of a name opens.
+//! Which names are groups, and what `~` of a name unwraps.
 mod heads;
 mod kinds;
 mod links;

@@ -130,7 +130,7 @@ module _ (rs : List S.Rule) (root : Text) (t : Table) where
     pub computations : (r : S.Rule) (xs : List Term) (x y : S.Type2) (o : S.Operator) (c : Computation) → IsReached rs root r xs (an_operation x o y) → computation_of o ≡ Some c → WasAsked answers (operand_at y) QuestionV.Computes (term_tree (fill (parameters_in r) xs (operation (term_of2 x) o (term_of2 y))))
     pub maps : (r : S.Rule) (xs : List Term) (u : Token) (g : S.Group) → IsReached rs root r xs (a_map u g) → WasAsked answers u.start QuestionV.MapGroup (group_tree (fill_group (parameters_in r) xs (group_of g)))
 
--- Of entries: each in a map that is reached, and each in a rule's own group or in the one that `~` of its name opens, in each of
+-- Of entries: each in a map that is reached, and each in a rule's own group or in the one that `~` of its name unwraps, in each of
 -- its instances.
 
 abbrev pub held_inside : Holder → S.Rule → List S.GrpEnt

@@ -63,7 +63,7 @@ question_before (S.range t) = Some QuestionV.IsWhole
 question_before (S.range_below t) = Some QuestionV.IsWhole
 question_before (S.control t) = question_of_operand (computation_in (control_of (control_name t)))
 
--- of a computation with its right side, told at that side
+-- of a computation with its right side, reported at that side
 abbrev pub computation_wanted : S.Type2 → S.Operator → S.Type2 → Wanted
 computation_wanted x o y = record { at = operand_at y; question = QuestionV.Computes; tree = term_tree (operation (term_of2 x) o (term_of2 y)); call = nothing }
 

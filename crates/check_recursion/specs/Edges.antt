@@ -261,7 +261,7 @@ module _ (rows places : ℕ) where
     abbrev pub all_edges : List Edge
     all_edges = rows_edges rows ++ places_edges places
 
--- Of each place whether it is told of: by the marks of its references, where there are any, and else by those of the choices through
+-- Of each place whether it is reported: by the marks of its references, where there are any, and else by those of the choices through
 -- its name.
 
 abbrev pub mark_in : Option Bool → Bool

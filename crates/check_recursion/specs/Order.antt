@@ -19,7 +19,7 @@ use Rattle.check_recursion.specs.declared.graph.Order.TheVariants as OrderV
 use Rattle.check_recursion.specs.Edges.{AreFlags, number}
 use Rattle.check_recursion.specs.Standing.{IsStep}
 
--- the row of a closed type below the number is told to be the entry that it is
+-- for the row of a closed type below the number, the entry that it is
 abbrev pub AreParts : List Definition → Text → List Ref → Table → ℕ → List Part → Type 0
 AreParts xs root refs t count parts = (n : ℕ) (x : Term) → n < count → IsTerm t n x → AreReached xs root (points x) → (q : Part) × (slice_get parts n ≡ Some q) × IsPart t refs (part_of xs x) q
 
@@ -48,7 +48,7 @@ module _ (xs : List Definition) (root : Text) (refs : List Ref) where
     pub down : (n m : Node) → IsStep xs root refs t n m → rank r m < rank r n
     pub most : (n : Node) → rank r n ≤ bound r
 
-  -- Of each instance it is told whether a reference to it leads back to itself, by itself, after `~` or after `&`; where none does,
+  -- Of each instance it is known whether a reference to it leads back to itself, by itself, after `~` or after `&`; where none does,
   -- whether a choice through its name does. One does.
   pub record AreCycles (flags : List Bool) : Type 0 where
     pub all : length flags ≡ length refs

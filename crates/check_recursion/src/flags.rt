@@ -1,4 +1,4 @@
-//! Of each instance whether it is told of, by the marks of its nodes.
+//! Of each instance whether it is reported, by the marks of its nodes.
 
 ghost use Rattle.std.specs.Prelude.{◌≡◌, ◌<◌, ℕ, IfOk, true, false};
 ghost use Rattle.check_recursion.specs.Edges as by;

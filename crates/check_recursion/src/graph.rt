@@ -67,7 +67,7 @@ pub enum Order {
     /// Nothing comes back to itself: ranks that go down.
     Ranks(Ranks),
     /// For each instance whether a reference with its name and arguments comes back to itself: by itself, after `~` or after `&`.
-    /// Where none does, a choice comes back through names of groups alone, and it is told of these.
+    /// Where none does, a choice comes back through names of groups alone, and it is reported for these.
     Cycles(Vec<bool>),
 }
 

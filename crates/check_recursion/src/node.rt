@@ -12,7 +12,7 @@ pub enum Node {
     Chosen(u32),
     /// What an instance means.
     Name(u32),
-    /// What `~` of an instance opens.
+    /// What `~` of an instance unwraps.
     Unwrapping(u32),
     /// What `&` of an instance chooses from.
     Choice(u32),

@@ -24,18 +24,18 @@ ghost use Rattle.tree_nodes.specs.declared.tree.Tree.{Tree};
 use check_terms::Terms;
 use check_terms::laws::equal_definitions;
 
-/// The first fault of all codes is the one that is told, and where there is none, the specification is accepted.
+/// The first fault of all codes is the one that is reported, and where there is none, the specification is accepted.
 pub fn first_is_told()
     ensures accepted { (s : Specification) (worth : Values) → IsFirst (IsFaultAt s worth) all_codes None → IsAccepted s worth }
     ensures refused { (s : Specification) (worth : Values) (f : Faults) → IsFirst (IsFaultAt s worth) all_codes (Some f) → IsRefused s worth f.code f.at }
 {}
 
-/// The first fault of the whole text is the one that is told, whatever the root reaches.
+/// The first fault of the whole text is the one that is reported, whatever the root reaches.
 pub fn text_fault_is_told()
     ensures { (s : Specification) (worth : Values) (f : Faults) → IsFirst (IsFaultAt s worth) text_codes (Some f) → IsRefused s worth f.code f.at }
 {}
 
-/// Where the text has no fault, the first one of what the root reaches is told, in the order of the codes; and where there is
+/// Where the text has no fault, the first one of what the root reaches is reported, in the order of the codes; and where there is
 /// none, the specification is accepted.
 pub fn root_faults_are_told()
     ensures too_many { (s : Specification) (worth : Values) (root : Text) → root_of s ≡ Some root → IsFirst (IsFaultAt s worth) text_codes None → (at : ℕ) → IsLeast (HasTooManyInstances s root) (Some at) → IsRefused s worth TooManyInstances at }

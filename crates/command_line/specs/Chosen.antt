@@ -196,7 +196,7 @@ abbrev pub IsMisuse : List Text → Use → Type 0
 IsMisuse words (Words e) = (o : Options) → AreChosen o words → ⊥
 IsMisuse words Memory = Unit {0}
 
--- Want of memory stays what it is, and what is wrong with the words may be told in other words.
+-- Want of memory stays what it is, and what is wrong with the words may be reported in other words.
 abbrev pub IsToldOf : Use → Use → Type 0
 IsToldOf (Words e) told = Unit {0}
 IsToldOf Memory told = told ≡ Memory

@@ -53,7 +53,7 @@ pub struct Options {
     pub quiet: bool,
     /// Whether items are rewritten in deterministic encoding (RFC 8949 section 4.2.1), and not in preferred encoding.
     pub deterministic: bool,
-    /// Whether more is told of a refusal, or of an item that does not match, than its line.
+    /// Whether more is reported for a refusal, or of an item that does not match, than its line.
     pub explain: bool,
     /// Whether no progress is shown.
     pub no_progress: bool,

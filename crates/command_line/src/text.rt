@@ -24,7 +24,7 @@ const PIECE: usize = 4096;
 ///
 /// # Errors
 ///
-/// [`BROKEN`], with a line on `err`, where a read failed, which is told by the file's name, or an allocation was refused.
+/// [`BROKEN`], with a line on `err`, where a read failed, which is reported by the file's name, or an allocation was refused.
 pub fn read_text<R: Read, E: Write>(
     alloc: Global,
     file: &mut R,

@@ -3,7 +3,7 @@ use Rattle.std.specs.Prelude.{ℕ, ◌++◌, take, drop, List}
 use Rattle.cddl_meaning.specs.Forms as F
 use Rattle.cddl_meaning.specs.Moves as M
 
--- the tally of pairs that belong to some of the first entries, for others behind these
+-- the tally of pairs that belong to some of the first entries, for others after these
 abbrev pub widened : {N : Type 0} → List ℕ → List (F.MapEntry N) → M.Tally → M.Tally
 widened counts others t = record { counts = counts ++ M.no_counts others; stray = t.stray; failing = t.failing }
 

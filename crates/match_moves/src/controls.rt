@@ -1,4 +1,4 @@
-//! What controls ask next: `.and` and `.within`, tests behind a type, and what byte strings hold.
+//! What controls ask next: `.and` and `.within`, tests after a type, and what byte strings hold.
 
 ghost use Rattle.std.specs.Prelude.{◌≡◌};
 ghost use Rattle.cddl_meaning.specs.Forms.{Both, Such, Holding, bits_asked, bytes_in, passes};
@@ -105,7 +105,7 @@ pub(crate) fn next_in_left<'t, 'i>(
     }
 }
 
-// The reply of a test behind a type that has said yes.
+// The reply of a test after a type that has said yes.
 #[inline(always)]
 fn such_reply<'i>(test: &Test, place: usize, next: usize, subject: Subject<'_>) -> Reply<'i>
     ensures { reply_view result ≡ such_reply place next (passes (test_view test.now) (subject_view subject.entry)) }

@@ -3,7 +3,7 @@ use Rattle.std.specs.Prelude.{ℕ, ◌==◌, Bool, true, false, List, [], ◌∷
 use Rattle.mismatch_words.specs.declared.causes.Cause.{Cause}
 use Rattle.mismatch_words.specs.declared.causes.Cause.TheVariants.{Value, MemberMissing, MemberTooMuch, PairStray, KeyTooFew, KeyTooMany, NoItem, NoSequence}
 
--- the key, with this behind the word; where it stands nowhere in the text as it is meant, no more than that it is one
+-- the key, with this after the word; where it stands nowhere in the text as it is meant, no more than that it is one
 abbrev pub key_words : List ℕ → List ℕ → List ℕ
 key_words colon [] = codes "a key"
 key_words colon (b ∷ bs) = codes "the key" ++ (colon ++ (codes " " ++ (b ∷ bs)))

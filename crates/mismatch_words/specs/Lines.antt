@@ -12,7 +12,7 @@ has_line lines line = list_any (λ told. pointwise nat_eq told line) lines
 abbrev pub with_line : List (List ℕ) → List ℕ → List (List ℕ)
 with_line lines line = if has_line lines line then lines else lines ++ line ∷ []
 
--- how many lines are told, at most
+-- how many lines are reported, at most
 abbrev pub most_lines : ℕ
 most_lines = 10
 

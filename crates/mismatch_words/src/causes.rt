@@ -12,7 +12,7 @@ pub enum Cause {
     Value,
     /// The array lacks a member of the type. Its last one may have been taken by an entry before, which need not have taken it.
     MemberMissing { greedy: bool },
-    /// It is a member behind all that the array may have.
+    /// It is a member after all that the array may have.
     MemberTooMuch,
     /// It is the key of a pair that belongs to no entry of the map.
     PairStray,
@@ -55,7 +55,7 @@ fn few_words(alloc: Global, count: u64, least: u64, written: &str) -> Result<Str
     }
 }
 
-// The key, with this behind the word. Nothing is written where the key stands nowhere in the text.
+// The key, with this after the word. Nothing is written where the key stands nowhere in the text.
 fn key_words(alloc: Global, colon: &str, written: &str) -> Result<String, AllocError>
     ensures { IfOk result (λ words. string_bytes words ≡ key_words colon.now written.now) }
 {

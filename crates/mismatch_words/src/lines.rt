@@ -8,10 +8,10 @@ ghost use Rattle.mismatch_words.specs.Lines.{told_lines, with_line};
 use crate::reasons::more_line;
 use std::alloc::{AllocError, Global};
 
-// So many lines are told, at most.
+// So many lines are reported, at most.
 const MOST_LINES: usize = 10;
 
-/// Puts a line behind others, unless it is one of them.
+/// Puts a line after others, unless it is one of them.
 ///
 /// # Errors
 ///

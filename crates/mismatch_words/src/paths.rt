@@ -13,7 +13,7 @@ const MOST_CHARACTERS: usize = 120;
 // So many bytes have more characters than are shown, also where they begin inside of one.
 const MOST_BYTES: usize = 512;
 
-/// What is shown of a path: its last 120 characters, behind `..` where it has more. Control characters and those that change the
+/// What is shown of a path: its last 120 characters, after `..` where it has more. Control characters and those that change the
 /// order of characters are `\u` and four hex digits.
 ///
 /// # Errors

@@ -19,7 +19,7 @@ are_alike word other = nat_le word 64 && nat_le other (word + word / 3) && nat_l
 abbrev pub near_edits : List ℕ → List ℕ → Option ℕ
 near_edits word other = if are_alike (length word) (length other) then (if nat_le (edits_to word other) (length word / 3) then Some (edits_to word other) else None) else None
 
--- Among these words is this one, so many edits away; those before it take more, and those behind it as many or more.
+-- Among these words is this one, so many edits away; those before it take more, and those after it as many or more.
 pub record IsAt (word : List ℕ) (words : List (List ℕ)) (found : List ℕ) (edits : ℕ) : Type 0 where
   pub before : List (List ℕ)
   pub behind : List (List ℕ)

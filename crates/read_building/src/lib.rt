@@ -1,5 +1,5 @@
 //! Builds one item of CBOR (RFC 8949 section 3) from pieces of any size, with one copy of its strings and none of its
-//! bytes. After a text that is not UTF-8 its form alone is followed, and where that text is, is told at the item's end.
+//! bytes. After a text that is not UTF-8 its form alone is followed, and where that text is, is reported at the item's end.
 #![tactic(auto)]
 
 mod build;

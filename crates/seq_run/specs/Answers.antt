@@ -23,7 +23,7 @@ use Rattle.seq_run.specs.Smalls.{smalls_from}
 abbrev pub items_of : List Found → List Value
 items_of found = map (λ f. f.item) found
 
--- a fault that is told after the last byte of a stream, for want of more
+-- a fault that is reported after the last byte of a stream, for want of more
 abbrev pub IsAtEndKind : FaultKind → Type 0
 IsAtEndKind kind.Truncated = Unit {0}
 IsAtEndKind kind.TooLong = Unit {0}

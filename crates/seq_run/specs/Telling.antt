@@ -6,7 +6,7 @@ pub record Telling : Type 0 where
   pub items : ℕ
   pub bytes : ℕ
 
--- What was told grows by these, where it is known.
+-- What was reported grows by these, where it is known.
 abbrev pub Tells : Option (List Telling) → Option (List Telling) → List Telling → Type 0
 Tells None after more = Unit {0}
 Tells (Some before) None more = ⊥

@@ -1,4 +1,4 @@
--- What is told of a run while it goes on.
+-- What is reported for a run while it goes on.
 use Rattle.std.specs.Prelude.{◌≡◌, ℕ, ◌<◌, ◌≤◌, List, [], ◌∷◌, ◌++◌, length, Option}
 use Rattle.std.specs.Io.KnownBytes as bytes
 use Rattle.cbor_data.specs.Faults.{Bounds}
@@ -19,13 +19,13 @@ pub record IsTelling (judge : Judge) (l : Bounds) (read : List ℕ) (t : Telling
   pub items : t.items ≡ length found
   pub bytes : t.bytes ≡ length read
 
--- These bytes were read in pieces of at most 4,096, and one of these was told after each piece.
+-- These bytes were read in pieces of at most 4,096, and one of these was reported after each piece.
 pub data AreTellings (judge : Judge) (l : Bounds) : List ℕ → List Telling → Type 0 where
   nothing_read : AreTellings judge l [] []
   one_more : (read piece : List ℕ) → (tellings : List Telling) → (t : Telling) → AreTellings judge l read tellings → 0 < length piece → length piece ≤ 4096 → IsTelling judge l (read ++ piece) t →
       AreTellings judge l (read ++ piece) (tellings ++ t ∷ [])
 
--- Of what was read all was told but for a last piece, of at most 4,096 bytes, after which nothing was.
+-- Of what was read all was reported but for a last piece, of at most 4,096 bytes, after which nothing was.
 pub record TellsByPieces (judge : Judge) (l : Bounds) (input : Change) (before after : Option (List Telling)) : Type 0 where
   pub front : List ℕ
   pub piece : List ℕ

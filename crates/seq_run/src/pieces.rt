@@ -1,4 +1,4 @@
-//! However a stream is cut into pieces, its run is taken, and its end is told.
+//! However a stream is cut into pieces, its run is taken, and its end is reported.
 
 ghost use Rattle.std.specs.Prelude.{◌≡◌, List, flat_map, IfOk};
 ghost use Rattle.cbor_data.specs.Sequence.{Found};

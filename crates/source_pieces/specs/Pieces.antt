@@ -13,7 +13,7 @@ pub data Around : Type 0 where
   brackets : (opening closing : Token) → Around
   the_rule : Around
 
--- what an entry has behind its occurrence and its key: a type, or a group in parentheses
+-- what an entry has after its occurrence and its key: a type, or a group in parentheses
 pub data Inner : Type 0 where
   of_types : S.Types → Inner
   of_group : (opening : Token) → S.Group → (closing : Token) → Inner
@@ -228,7 +228,7 @@ name_there (a_key a k) = None
 name_there (a_value a k x) = None
 name_there (a_member a x) = name_of_types (bare_types x)
 
--- what is told of an entry: its type, or its group in parentheses
+-- what is reported for an entry: its type, or its group in parentheses
 abbrev pub tokens_of_inner : Inner → List S.Lexeme
 tokens_of_inner (of_types t) = S.flat_types (bare_types t)
 tokens_of_inner (of_group o g c) = (ParenOpen, o) ∷ (S.flat_group g ++ (ParenClose, c) ∷ [])

@@ -19,7 +19,7 @@ pub(crate) enum AroundNode {
     Rule,
 }
 
-// What an entry has behind its occurrence and its key.
+// What an entry has after its occurrence and its key.
 #[derive(Clone, Copy)]
 pub(crate) enum InnerNode<'t> {
     Types(&'t Types),

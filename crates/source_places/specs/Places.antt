@@ -228,7 +228,7 @@ module _ (rules : List S.Rule) (names : TypeName → TypeId → Type 0) (closed 
   abbrev pub IsOther : Text → (filled : Bool) → S.Rule → Type 0
   IsOther n filled r = filled ≡ true → name_in r ≡ n → ⊥
 
-  -- How a type that is sought is told, in the place of what stands in a part of the text: as it is written; or as what stands there.
+  -- How a type that is sought is reported, in the place of what stands in a part of the text: as it is written; or as what stands there.
   pub data IsWritten (n : Text) (filled : Bool) (sought : TypeName → Type 0) (s : Span) : Span → Type 0 where
     elsewhere : {p : Piece} {at : Spot} {y : TypeName} → sought y → (h : Stands rules names p at) → IsOther n filled h.rule → name_of_piece (closed h.rule) p ≡ Some y → IsWritten n filled sought s at.span
     as_it_is : ((p : Piece) (at : Spot) (y : TypeName) → sought y → (h : Stands rules names p at) → IsOther n filled h.rule → name_of_piece (closed h.rule) p ≡ Some y → ⊥) → IsWritten n filled sought s s

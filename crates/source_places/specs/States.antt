@@ -456,7 +456,7 @@ pub record IsElsewhere (x : TypesInText) (n : ℕ) (o : TypeOrigin) (a : PieceAt
   pub is : IsOfOrigin x o a
   pub other : IsOther x n a.rule
 
--- how the type of this origin is told in the place of what stands there
+-- how the type of this origin is reported in the place of what stands there
 pub data IsWrittenIn (x : TypesInText) (n : ℕ) (o : Option TypeOrigin) (s : Span) : Span → Type 0 where
   elsewhere : {b : PieceAt} {u : TypeOrigin} → o ≡ Some u → IsElsewhere x n u b → IsWrittenIn x n o s b.span
   as_it_is : ((b : PieceAt) (u : TypeOrigin) → o ≡ Some u → IsElsewhere x n u b → ⊥) → IsWrittenIn x n o s s

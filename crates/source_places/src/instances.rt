@@ -36,7 +36,7 @@ impl Sources<'_> {
     /// place was found before, and not of one within it: it stands in the map, or in a rule to which names lead that are entries
     /// there. So does the key to which a link of its own leads. An alternative of a group and an entry of it lead to this entry, where
     /// the place found before is that of the array or of the parentheses round the group, or is a name that is an entry by itself:
-    /// then it stands in the rules of that name. Nothing is told where none is an instance of a rule of the text.
+    /// then it stands in the rules of that name. Nothing is reported where none is an instance of a rule of the text.
     ///
     /// It takes time in proportion to the types and the entries in the text for each of these. In an instance with arguments it makes
     /// a copy of the table of terms besides, and reads each type of the rules of its name once for each bracket in which it stands.

@@ -31,7 +31,7 @@ pub struct Place {
     /// The type, without parentheses round all of it. Where none of the types that led to it stands in the rule, it is all that the
     /// rule has after its sign, without such parentheses too.
     pub types: Span,
-    /// How the type is written. What an argument brings is told as it is written elsewhere, if it is, and not as the parameter in whose
+    /// How the type is written. What an argument brings is reported as it is written elsewhere, if it is, and not as the parameter in whose
     /// place it is; else it is what stands there.
     pub written: Span,
 }

@@ -1,4 +1,4 @@
-//! How a type is told: where it is written with an argument, and not with the parameter in whose place that is.
+//! How a type is reported: where it is written with an argument, and not with the parameter in whose place that is.
 
 ghost use Rattle.std.specs.Prelude.{◌≡◌, ◌↔◌, IfNone, IfSome, IsTrue, Some};
 ghost use Rattle.source_places.specs.States.{IsElsewhere, IsOther, IsWrittenIn, sought_in, told_origin};

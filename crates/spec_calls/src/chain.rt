@@ -36,7 +36,7 @@ pub(crate) struct Reached {
     pub questions: Questions,
 }
 
-/// What the instances mean, what `~` of each opens, and where that ends.
+/// What the instances mean, what `~` of each unwraps, and where that ends.
 #[derive(Drop)]
 pub(crate) struct Opened {
     pub closed: Closed,
@@ -305,7 +305,7 @@ fn with_reached<'s>(
     }
 }
 
-// What is told of the instances of a text, by the name of the call that tells it.
+// What is reported for the instances of a text, by the name of the call that tells it.
 pub(crate) fn surveyed<'s>(
     alloc: Global,
     terms: &mut Terms<'s>,

@@ -3,6 +3,7 @@ use alternatives::{
     Bounds, Member, Part, Summary, alternatives, is_too_large, occurs_badly, summaries,
 };
 use call_lines::{count, first, push_is, push_no_memory, push_none, push_number, push_space};
+use rooms::Room;
 use std::alloc::{AllocError, Global};
 
 // A number of a part, and the parts.
@@ -102,7 +103,9 @@ fn push_alternatives(
     number: usize,
     out: &mut String,
 ) -> Result<(), AllocError> {
-    match alternatives(alloc, parts, found, number) {
+    // room enough for each of the rows
+    let mut room = Room::new(1_048_576, 0, 0);
+    match alternatives(alloc, parts, found, number, &mut room) {
         Ok(Some(lists)) => push_lists(alloc, &lists, out),
         Ok(None) => out.push_str("unmade"),
         Err(_) => push_no_memory(out),

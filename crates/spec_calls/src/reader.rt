@@ -1,4 +1,4 @@
-//! Whether two definitions have the same body, told by numbers, and of operations that are read again.
+//! Whether two definitions have the same body, said by numbers, and of operations that are read again.
 
 use crate::texts_told::text_in;
 use check_reading::reader::{read, read_operation};

@@ -1,4 +1,4 @@
-//! What is told of the instances of a text, by the name of the call that is asked.
+//! What is reported for the instances of a text, by the name of the call that is asked.
 
 use crate::chain::{Meant, Opened};
 use crate::coming::of_coming_back;
@@ -21,7 +21,7 @@ use std::alloc::Global;
 use table_making::{Nodes, Source, nodes_of};
 use table_nodes::NumberSet;
 
-// What is told of the instances of a text, by the name of the call that tells it. They stand in the order in which they are
+// What is reported for the instances of a text, by the name of the call that tells it. They stand in the order in which they are
 // found, with the root first.
 pub(crate) fn told(
     alloc: Global,

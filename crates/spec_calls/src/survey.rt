@@ -1,4 +1,4 @@
-//! The kinds of names, and what `~` of a name opens.
+//! The kinds of names, and what `~` of a name unwraps.
 
 use crate::texts_told::text_in;
 use check_names::kinds::Shape;
@@ -14,7 +14,7 @@ fn letter(shape: Option<Shape>) -> &'static str {
     }
 }
 
-// The kind of the name, and what `~` of it opens; `-` of a name that stands nowhere.
+// The kind of the name, and what `~` of it unwraps; `-` of a name that stands nowhere.
 pub(crate) fn kind_of(
     alloc: Global,
     terms: &Terms<'_>,

@@ -1,4 +1,4 @@
-//! The faults of a text that are told at its rules and sites, by their offsets.
+//! The faults of a text that are reported at its rules and sites, by their offsets.
 
 use crate::texts_told::text_in;
 use check_reading::survey::Survey;

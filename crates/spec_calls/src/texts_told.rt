@@ -1,4 +1,4 @@
-//! What is told of a text or of what its root leads to, by the name of what is asked.
+//! What is reported for a text or of what its root leads to, by the name of what is asked.
 
 ghost use Rattle.cddl_tree.specs.States.{EndsInEnd};
 
@@ -85,7 +85,7 @@ fn in_tokens(alloc: Global, found: &[Token<'_>], room: &str, what: &str) -> Opti
     }
 }
 
-// What is told of the text, or in the room `root` of what its root leads to, by the name of what is asked, with a space behind each
+// What is reported for the text, or in the room `root` of what its root leads to, by the name of what is asked, with a space after each
 // word, if the text is read.
 pub(crate) fn told_of(alloc: Global, source: &str, room: &str, what: &str) -> Option<String> {
     tokens_end();

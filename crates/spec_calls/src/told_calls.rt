@@ -26,7 +26,7 @@ pub(crate) fn answer(
     }
 }
 
-// What is told of a text, or of what its root leads to.
+// What is reported for a text, or of what its root leads to.
 fn push_told(
     alloc: Global,
     room: &str,

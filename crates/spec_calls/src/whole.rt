@@ -14,7 +14,7 @@ use std::alloc::{AllocError, Global};
 // How many types are gone through, each of which says what another says.
 const MOST_NAMES: usize = 64;
 
-// The name of the root, or `-`, and the text: what is told of its specification, of its table or of the ranks in this, or why it
+// The name of the root, or `-`, and the text: what is reported for its specification, of its table or of the ranks in this, or why it
 // is refused.
 pub(crate) fn push_whole(
     alloc: Global,

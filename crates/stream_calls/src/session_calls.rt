@@ -95,7 +95,7 @@ fn push_end(alloc: Global, end: End, out: &mut String) -> Result<(), AllocError>
     out.push_str(format!(in alloc; "{end:?}")?.as_str())
 }
 
-// The same of a session that owns its table: at its first stream, or of pieces that are whole behind another stream of the same.
+// The same of a session that owns its table: at its first stream, or of pieces that are whole after another stream of the same.
 fn push_owned(
     alloc: Global,
     session: &mut OwnedSession,

@@ -1,4 +1,4 @@
--- Forms whose parts are told by what they are of.
+-- Forms whose parts are known by what they are of.
 use Rattle.std.specs.Prelude.{List, map}
 use Rattle.std.specs.declared.alloc.Global.{Global}
 use Rattle.std.specs.declared.vec.Vec.{Vec}

@@ -1,4 +1,4 @@
-//! Forms of types and groups, whose parts are told by what they are of.
+//! Forms of types and groups, whose parts are known by what they are of.
 
 ghost use Rattle.std.specs.Prelude.{◌≡◌, []};
 ghost use Rattle.cddl_meaning.specs.Forms as F;

@@ -15,7 +15,7 @@ use cddl_language::written::reached_values;
 use check_instances::closed::laws::meanings_are_reached;
 use check_instances::openings::laws::{opened_is_reached, part_is_reached};
 
-// In what an instance means, and in what `~` of it opens, all references are instances, and each written value is taken for
+// In what an instance means, and in what `~` of it unwraps, all references are instances, and each written value is taken for
 // what it stands for.
 pub(crate) fn known_instances()
     ensures types { (s : Sense) (t : Table) (src : ASource) → IsSource s t src → (r : Ref) → Reaches s.definitions s.root r → (x : Term) → Contains (type_choices s.definitions r) x → IsKnown s x }

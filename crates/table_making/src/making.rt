@@ -23,6 +23,12 @@ const PARTS: u64 = 262_144;
 /// For how many parts of forms each row of the terms gives room.
 const PARTS_OF_A_ROW: u64 = 8;
 
+/// How many parts of groups may be gone through for the alternatives of maps, beside those that the rows give room for.
+const STEPS: u64 = 1_048_576;
+
+/// For how many of these each row of the terms gives room.
+const STEPS_OF_A_ROW: u64 = 32;
+
 /// Types and groups for a table, each with what it is of.
 #[derive(Drop)]
 pub struct Nodes {
@@ -69,6 +75,7 @@ pub fn nodes_of(
         types: Vec::new(alloc),
         groups: Vec::new(alloc),
         room: Room::new(PARTS, PARTS_OF_A_ROW, terms.len()),
+        walks: Room::new(STEPS, STEPS_OF_A_ROW, terms.len()),
     };
     search.run(alloc, terms, source)?;
     let nodes = finish(alloc, search, top)?;

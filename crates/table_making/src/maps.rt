@@ -30,6 +30,7 @@ use check_groups::choosing::laws::texts_have_entries;
 use check_groups::splices::laws::parts_stand_for_maps;
 use check_terms::{Form, NoRoom, Row, Terms, push};
 use item_nodes::Item;
+use rooms::Room;
 use std::alloc::Global;
 use table_nodes::Test;
 
@@ -52,12 +53,14 @@ fn text_item(text: String) -> Item
     Item::Text(text)
 }
 
-// A map with one of the alternatives that the group of the row stands for. Where it stands for none, no item is such a map.
+// A map with one of the alternatives that the group of the row stands for. Where it stands for none, no item is such a map. What is
+// gone through for them is taken from the room for walks.
 pub(crate) fn map_form(
     alloc: Global,
     terms: &Terms<'_>,
     source: &Source<'_>,
     group: u32,
+    walks: &mut Room,
 ) -> Result<TypeForm, NoRoom>
     ensures { IfOk result (λ f. (s : Sense) (g : Group) → IsSource s terms.now source.now → IsGroup terms.now group g → IsKnown s (L.map_of g) → IsTermForm s terms.now (L.map_of g) f) }
 {
@@ -68,7 +71,8 @@ pub(crate) fn map_form(
     if !stands_for_some(source, group) {
         return Ok(nothing(alloc));
     }
-    let Ok(Some(members)) = alternatives(alloc, source.parts, source.summaries, group as usize)
+    let number = group as usize;
+    let Ok(Some(members)) = alternatives(alloc, source.parts, source.summaries, number, walks)
     else {
         return Err(NoRoom);
     };

@@ -27,6 +27,8 @@ pub(crate) struct Search {
     pub groups: Vec<Group>,
     /// The parts of forms that may still be made.
     pub room: Room,
+    /// The parts of groups that may still be gone through for the alternatives of maps.
+    pub walks: Room,
 }
 
 impl Search {
@@ -81,7 +83,7 @@ impl Search {
         ensures grows { OnOk result (Extends (keys_in self.old) (keys_in self.new)) }
         ensures keeps { OnOk result ((s : Sense) → IsSource s terms.now source.now → slice_get (keys_in self.old).types (length self.old.types.items) ≡ Some origin → HasSearch s terms.now self.old → HasSearch s terms.now self.new) }
     {
-        let form = type_form(alloc, terms, source, origin)?;
+        let form = type_form(alloc, terms, source, origin, &mut self.walks)?;
         take_type(&mut self.room, &form)?;
         let node = self.numbers.type_node(alloc, form)?;
         push(&mut self.types, node)?;

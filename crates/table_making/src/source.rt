@@ -14,7 +14,7 @@ pub struct Source<'a> {
     pub closed: &'a Closed,
     /// Which names are groups'.
     pub kinds: &'a Kinds,
-    /// What `~` of each instance opens, by its place.
+    /// What `~` of each instance unwraps, by its place.
     pub openings: &'a [Opening],
     /// The literals that the rows are, written or computed.
     pub literals: &'a Literals,
@@ -24,6 +24,6 @@ pub struct Source<'a> {
     pub choosable: &'a [bool],
     /// What each row says in the group of a map.
     pub parts: &'a [Part],
-    /// What is told of the alternatives of each of these parts.
+    /// What is reported for the alternatives of each of these parts.
     pub summaries: &'a [Option<Summary>],
 }

@@ -39,6 +39,7 @@ use check_instances::openings::Opening;
 use check_instances::openings::laws::opening_stands;
 use check_terms::texts::Control;
 use check_terms::{NoRoom, Terms};
+use rooms::Room;
 use std::alloc::Global;
 use table_nodes::Content;
 
@@ -48,11 +49,12 @@ pub(crate) fn type_form(
     terms: &Terms<'_>,
     source: &Source<'_>,
     origin: TypeOrigin,
+    walks: &mut Room,
 ) -> Result<TypeForm, NoRoom>
     ensures { IfOk result (λ f. (s : Sense) (n : TypeName) → IsSource s terms.now source.now → IsTypeOrigin s terms.now n origin → IsTypeForm s terms.now n f) }
 {
     match origin {
-        TypeOrigin::Row(row) => row_form(alloc, terms, source, row),
+        TypeOrigin::Row(row) => row_form(alloc, terms, source, row, walks),
         TypeOrigin::Instance(place) => instance_form(alloc, source, place),
         TypeOrigin::Chosen(group) => chosen_form(alloc, terms, source, group),
         TypeOrigin::Word(text) => word_form(alloc, terms, text),
@@ -65,6 +67,7 @@ fn row_form(
     terms: &Terms<'_>,
     source: &Source<'_>,
     row: u32,
+    walks: &mut Room,
 ) -> Result<TypeForm, NoRoom>
     ensures { IfOk result (λ f. (s : Sense) (x : Term) → IsSource s terms.now source.now → IsTerm terms.now row x → IsKnown s x → IsTermForm s terms.now x f) }
 {
@@ -72,7 +75,7 @@ fn row_form(
         Shape::Literal => equal_form(alloc, source, row),
         Shape::Named(call) => named_form(alloc, terms, source, call),
         Shape::Parens(part) => Ok(TypeForm::Ref(TypeOrigin::Row(part))),
-        Shape::MapOf(group) => map_form(alloc, terms, source, group),
+        Shape::MapOf(group) => map_form(alloc, terms, source, group, walks),
         Shape::ArrayOf(group) => Ok(TypeForm::ArrayOf(GroupOrigin::Alternatives(Some(group)))),
         Shape::Unwrapped(call) => unwrapped_form(alloc, terms, source, call),
         Shape::ChoiceOf(group) => choice_form(alloc, terms, source, group),

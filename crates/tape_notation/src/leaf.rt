@@ -121,7 +121,7 @@ pub(crate) fn put_last(
     }
 }
 
-// Puts the bits of a float, which its bytes have, behind the front that its width has.
+// Puts the bits of a float, which its bytes have, after the front that its width has.
 fn put_float(out: &mut Vec<u8>, at: usize, front: &[u8], bits: &[u8]) -> Result<usize, AllocError>
     requires { at ≤ length out.old.items }
     ensures { IfOk result (λ end. IsPut out.old.items out.new.items at (front.now ++ (encode_lower bits.now ++ codes "'")) end) }

@@ -6,7 +6,7 @@ use item_nodes::diag;
 use read_items::whole::whole_item;
 use std::alloc::{AllocError, Global};
 
-// Whether the item at the front of the bytes has this notation, behind what is there before, from its tape and in memory.
+// Whether the item at the front of the bytes has this notation, after what is there before, from its tape and in memory.
 fn shows(alloc: Global, bytes: &[u8], text: &[u8]) -> Result<bool, AllocError> {
     if bytes.len() > 512 {
         return Ok(false);

@@ -11,9 +11,9 @@ use std::alloc::{AllocError, Global};
 const MOST_BESIDE: usize = 60;
 
 /// What is shown of a part of a text: the line where it begins, and marks under its characters there. A part without bytes, and
-/// one that begins where its line ends, has one mark, under the character that begins there, or behind the last one.
+/// one that begins where its line ends, has one mark, under the character that begins there, or after the last one.
 ///
-/// A line ends with a line feed, or at a carriage return behind the beginning of the part. A tab is four spaces, control
+/// A line ends with a line feed, or at a carriage return after the beginning of the part. A tab is four spaces, control
 /// characters and those that change the order of characters are `\u` and four hex digits, and what is not UTF-8 is U+FFFD. Of a
 /// long line the 60 characters before the part and the 60 from its beginning on are shown, and `..` for others.
 ///

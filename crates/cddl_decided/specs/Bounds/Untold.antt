@@ -1,4 +1,4 @@
--- Specifications of which some faults are not told.
+-- Specifications of which some faults are not reported.
 use Rattle.std.specs.Prelude.{◌≡◌, ℕ, true, List, Contains}
 use Rattle.cddl_language.specs.Faults.{HasGroupAsType, HasTooManyInstances, Specification}
 use Rattle.cddl_language.specs.Kinds.{is_group}

@@ -19,7 +19,7 @@ pub fn choices_nest()
     ensures { (xs : List Definition) (ess : List Entries) → can_choose xs ess ≡ true → IsChosenEach xs ess }
 {}
 
-/// A name whose `~` opens something is a type's.
+/// A name whose `~` unwraps something is a type's.
 pub fn opened_names_are_types()
     ensures { (xs : List Definition) → HaveEntries xs → (r : Ref) (o : Opened) → opened xs r ≡ Some o → is_group xs (name_of r) ≡ false }
 {}

@@ -10,7 +10,7 @@ use Rattle.check_terms.specs.Trees.{IsTerm, IsRef, IsGroup, IsEntries, IsEntry}
 use Rattle.check_instances.specs.declared.closed.closed.Closed.{Closed}
 use Rattle.check_instances.specs.declared.closed.closed.Meaning.{Meaning}
 
--- The row of this number stands for it. Lists of rows are told by `AlikeAll`, one for one.
+-- The row of this number stands for it. Lists of rows are related by `AlikeAll`, one for one.
 
 abbrev pub TermRow : Table → Term → ℕ → Type 0
 TermRow t x n = IsTerm t n x

@@ -37,6 +37,6 @@ pub record EndsAt (ds : List Definition) (t : Table) (refs : List Ref) (r : Ref)
   pub itself : IsOneType ds end type
   pub no_name : is_name type ≡ false
 
--- for each instance of which `~` opens anything
+-- for each instance of which `~` unwraps anything
 abbrev pub AreEndings : List Definition → Table → List Ref → List (Option ℕ) → Type 0
 AreEndings xs t refs ends = (k : ℕ) (r : Ref) (o : Opened) → slice_get refs k ≡ Some r → opened xs r ≡ Some o → EndsAt xs t refs r (slice_get ends k)

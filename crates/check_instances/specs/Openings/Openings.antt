@@ -1,4 +1,4 @@
--- What `~` of each instance opens, and what a type of an entry is, by rows.
+-- What `~` of each instance unwraps, and what a type of an entry is, by rows.
 use Rattle.std.specs.Prelude.{◌≡◌, ℕ, List, Option, Some, None, slice_get}
 use Rattle.cddl_meaning.specs.Alike.{AlikeAll}
 use Rattle.cddl_language.specs.Terms.{Term, Ref, Group, Definition}
@@ -16,7 +16,7 @@ pub data IsOpened (t : Table) : Option Opened → Opening → Type 0 where
   group_opened : {n : ℕ} {g : Group} → IsGroup t n g → IsOpened t (Some (opens_group g)) (OpeningV.Group n)
   type_opened : {n : ℕ} {x : Term} → IsTerm t n x → IsOpened t (Some (opens_type x)) (OpeningV.Type n)
 
--- what `~` of the reference opens, where the text has the definitions xs
+-- what `~` of the reference unwraps, where the text has the definitions xs
 abbrev pub IsOpening : List Definition → Table → Ref → Opening → Type 0
 IsOpening xs t r o = IsOpened t (opened xs r) o
 

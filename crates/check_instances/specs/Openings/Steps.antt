@@ -107,7 +107,7 @@ opening_by (Some r) = opening_in r.form r.first r.second
 abbrev pub opening_at : List Row → Option ℕ → Opening
 opening_at rows n = opening_by (row_in rows n)
 
--- whether `~` of the name opens anything
+-- whether `~` of the name unwraps anything
 abbrev pub opens : Kinds → Option ℕ → Bool
 opens ks None = false
 opens ks (Some n) = is_some (shape_there ks n)

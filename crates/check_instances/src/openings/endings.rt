@@ -15,8 +15,8 @@ use check_terms::laws::equal_numbers;
 use graphs::chains::{Link, ends};
 use std::alloc::{AllocError, Global};
 
-/// For each instance a row of the instance whose own body it is that `~` of it opens: the one at which the way through names
-/// ends, if `~` opens anything. Through so many names at most, as for [`crate::openings::openings_of`], and in the same time.
+/// For each instance a row of the instance whose own body it is that `~` of it unwraps: the one at which the way through names
+/// ends, if `~` unwraps anything. Through so many names at most, as for [`crate::openings::openings_of`], and in the same time.
 pub fn endings_of(
     alloc: Global,
     terms: &Terms<'_>,

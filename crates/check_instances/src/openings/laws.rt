@@ -9,7 +9,7 @@ ghost use Rattle.check_instances.specs.Closed.Closed.{AreReached};
 ghost use Rattle.check_instances.specs.declared.openings.openings.Opening.{Opening};
 ghost use Rattle.check_instances.specs.Openings.Openings.{AreOpenings, IsOpened};
 
-/// All references that stand in what `~` of an instance opens are instances.
+/// All references that stand in what `~` of an instance unwraps are instances.
 pub fn opened_is_reached()
     ensures group { (xs : List Definition) (root : Text) (r : Ref) (g : Group) → Reaches xs root r → opened xs r ≡ Some (opens_group g) → AreReached xs root (group_points g) }
     ensures content { (xs : List Definition) (root : Text) (r : Ref) (x : Term) → Reaches xs root r → opened xs r ≡ Some (opens_type x) → AreReached xs root (points x) }
@@ -23,7 +23,7 @@ pub fn part_is_reached()
     ensures group { (xs : List Definition) (root : Text) (x : Term) (r : Ref) (g : Group) → AreReached xs root (points x) → part_of xs x ≡ opens r g → AreReached xs root (group_points g) }
 {}
 
-/// What `~` of the instance at a place opens is told at this place.
+/// What `~` of the instance at a place unwraps is reported at this place.
 pub fn opening_stands()
     ensures { (xs : List Definition) (t : Table) (refs : List Ref) (openings : List Opening) (k : ℕ) (r : Ref) → AreOpenings xs t refs openings → slice_get refs k ≡ Some r → (o : Opening) × (slice_get openings k ≡ Some o) × IsOpened t (opened xs r) o }
 {}

@@ -1,4 +1,4 @@
-//! What `~` of each instance opens: the group of a map or an array, the content of a tag, or nothing.
+//! What `~` of each instance unwraps: the group of a map or an array, the content of a tag, or nothing.
 
 ghost use Rattle.std.specs.Prelude.{◌≡◌, List, IfOk, slice_get};
 ghost use Rattle.cddl_language.specs.Environment.{most_names};
@@ -18,7 +18,7 @@ use check_terms::{Form, Row, Terms};
 use graphs::chains::ends;
 use std::alloc::{AllocError, Global};
 
-/// What `~` of a closed reference opens.
+/// What `~` of a closed reference unwraps.
 #[derive(Clone, Copy, Debug, PartialEq, Eq)]
 pub enum Opening {
     /// Nothing.
@@ -36,11 +36,11 @@ pub enum Part {
     AsksType,
     /// The name of a group: the place of the instance.
     NamesGroup(u32),
-    /// `~` and a name that opens a group: the place of the instance, and the row of the group.
+    /// `~` and a name that unwraps a group: the place of the instance, and the row of the group.
     Opens(u32, u32),
 }
 
-/// What `~` of each instance opens (RFC 8610 section 3.7), in the order of the instances: through so many names at most, as
+/// What `~` of each instance unwraps (RFC 8610 section 3.7), in the order of the instances: through so many names at most, as
 /// there are definitions in the prelude and the text together.
 ///
 /// It takes a time of n log m for n instances and m definitions, however names lead to names. An error comes only where memory
@@ -60,7 +60,7 @@ pub fn openings_of(
     ended_openings(alloc, terms, kinds, &closed.meanings, &ends)
 }
 
-// What `~` of each opens, where the ways end at these rows.
+// What `~` of each unwraps, where the ways end at these rows.
 fn ended_openings(
     alloc: Global,
     terms: &Terms<'_>,
@@ -94,7 +94,7 @@ fn opening_of(terms: &Terms<'_>, kinds: &Kinds, call: u32, end: Option<u32>) -> 
     }
 }
 
-// Whether `~` of the name opens anything.
+// Whether `~` of the name unwraps anything.
 fn opens(kinds: &Kinds, name: Option<u32>) -> bool
     ensures { result ≡ by.opens kinds.now name }
 {

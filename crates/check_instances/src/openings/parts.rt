@@ -1,4 +1,4 @@
-//! What the type of an entry without a key is: a type, the name of a group, or `~` and a name that opens a group.
+//! What the type of an entry without a key is: a type, the name of a group, or `~` and a name that unwraps a group.
 
 ghost use Rattle.std.specs.Prelude.{◌≡◌, ℕ, List, IfOk, option_copied, slice_get};
 ghost use Rattle.cddl_language.specs.Kinds as K;
@@ -19,7 +19,7 @@ use check_terms::laws::equal_numbers;
 use check_terms::{Form, Row, Terms};
 
 /// What the type of an entry without a key is (RFC 8610 sections 2.2.2 and 3.7): a type that is asked, or the name of a group, or
-/// `~` and a name that opens a group. It costs a few look-ups by number.
+/// `~` and a name that unwraps a group. It costs a few look-ups by number.
 pub fn part_of(
     terms: &Terms<'_>,
     closed: &Closed,

@@ -25,7 +25,7 @@ pub record AreComingBack (ds : List Definition) (root : Text) (t : Table) (refs 
   pub all : length flags ≡ length spliced
   pub each : (i : ℕ) (x : Spliced) (e : Entry) → slice_get spliced i ≡ Some x → IsEntry t x.row e → AreReached ds root (entry_points e) → (slice_get flags i ≡ Some true) ↔ LeadsBack ds refs x.owner e
 
--- the row of a closed entry below the number is told to whose group it leads
+-- for the row of a closed entry below the number, to whose group it leads
 abbrev pub AreTargets : List Definition → Text → List Ref → Table → ℕ → List (Option Owner) → Type 0
 AreTargets ds root refs t count targets = (n : ℕ) (e : Entry) → n < count → IsEntry t n e → AreReached ds root (entry_points e) → (o : Option Owner) × (slice_get targets n ≡ Some o) × IsTarget ds refs (point_in ds e) o
 

@@ -30,7 +30,7 @@ pub data IsTarget (ds : List Definition) (refs : List Ref) : Option Point → Op
   nowhere : IsTarget ds refs None None
   somewhere : {p : Point} {w : Owner} → IsOwner ds refs w (Some p) → IsTarget ds refs (Some p) (Some w)
 
--- what is told of the entry of which it was asked, if all references that stand in it are instances
+-- what is reported for the entry of which it was asked, if all references that stand in it are instances
 pub record IsWay (ds : List Definition) (root : Text) (t : Table) (refs : List Ref) (places : List (Option ℕ)) (a : Asked) (w : Way) : Type 0 where
   pub owner : w.owner ≡ owner_of places a
   pub target : (x : Entry) → IsEntry t a.row x → AreReached ds root (entry_points x) → IsTarget ds refs (point_in ds x) w.target
@@ -44,7 +44,7 @@ module _ (rs : List S.Rule) (root : Text) (t : Table) (refs : List Ref) where
     of_map : IsSplicedOwner None
     of_point : {p : Point} → IsSplicedPoint rs root p → IsSplicedOwner (Some p)
 
-  -- An entry that is told of is spliced into a map by each of its owners that is, and there is one. All references that stand in
+  -- An entry that is reported is spliced into a map by each of its owners that is, and there is one. All references that stand in
   -- it are instances.
   pub record IsSplicedEntry (x : Spliced) : Type 0 where
     pub rule : S.Rule

@@ -21,7 +21,7 @@ use check_sites::entries::Holder;
 use check_terms::laws::equal_numbers;
 use check_terms::{Form, Terms};
 
-/// In whose group an entry stands that is spliced into a map. Instances are told by their places.
+/// In whose group an entry stands that is spliced into a map. Instances are given by their places.
 #[derive(Clone, Copy, Debug, PartialEq, Eq)]
 pub enum Owner {
     /// The map's own.

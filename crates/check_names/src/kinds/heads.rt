@@ -10,7 +10,7 @@ ghost use Rattle.check_terms.specs.declared.row.Row as R;
 use check_terms::{Body, Definition, Form, Row, Terms};
 use std::alloc::{AllocError, Global};
 
-/// What a body is, out of its parentheses. Names are told by the numbers of their texts.
+/// What a body is, out of its parentheses. Names are given by the numbers of their texts.
 #[derive(Clone, Copy)]
 pub(crate) enum Head {
     /// One name that is no parameter.

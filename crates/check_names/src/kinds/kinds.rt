@@ -1,4 +1,4 @@
-//! The kinds of names, a type's or a group's, and what `~` of each name opens.
+//! The kinds of names, a type's or a group's, and what `~` of each name unwraps.
 
 ghost use Rattle.std.specs.Prelude.{◌≡◌, IfOk, List, length, option_map};
 ghost use Rattle.cddl_language.specs.Prelude.{prelude};
@@ -18,7 +18,7 @@ use check_terms::{Definition, Sign, Terms};
 use graphs::chains::{Link, ends};
 use std::alloc::{AllocError, Global};
 
-/// What `~` of a name opens.
+/// What `~` of a name unwraps.
 #[derive(Clone, Copy, Debug, PartialEq, Eq)]
 pub enum Shape {
     /// The group of a map or an array.
@@ -27,7 +27,7 @@ pub enum Shape {
     Content,
 }
 
-/// The kinds of names, and what `~` of each opens, by the numbers of their texts.
+/// The kinds of names, and what `~` of each unwraps, by the numbers of their texts.
 #[derive(Drop)]
 pub struct Kinds {
     opened: Vec<Option<u32>>,
@@ -42,7 +42,7 @@ impl Kinds {
         matches!(self.groups.get(name as usize), Some(Some(GROUP)))
     }
 
-    /// What `~` of the name opens, if anything.
+    /// What `~` of the name unwraps, if anything.
     pub fn opened(&self, name: u32) -> Option<Shape>
         ensures { option_map sort_in result ≡ shape_there self.now name }
     {
@@ -90,7 +90,7 @@ fn is_equals(sign: Sign) -> bool
     matches!(sign, Sign::Is)
 }
 
-/// The kinds of all names of the table, where the prelude and the text have these definitions, and what `~` of each name opens
+/// The kinds of all names of the table, where the prelude and the text have these definitions, and what `~` of each name unwraps
 /// (RFC 8610 sections 2.2.2, 3.7 and 3.9).
 ///
 /// It takes a time of n log n for n texts and definitions, however names lead to names. An error comes only where memory is

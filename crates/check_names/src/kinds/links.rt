@@ -11,11 +11,11 @@ use check_terms::{Definition, Sign, Terms};
 use graphs::chains::Link;
 use std::alloc::{AllocError, Global};
 
-/// The answer of a chain that ends at a group, or at a map or an array that `~` opens.
+/// The answer of a chain that ends at a group, or at a map or an array that `~` unwraps.
 pub(crate) const GROUP: u32 = 0;
-/// The answer of a chain that ends at a type, or at the content of a tag that `~` opens.
+/// The answer of a chain that ends at a type, or at the content of a tag that `~` unwraps.
 pub(crate) const TYPE: u32 = 1;
-/// The answer of a chain that ends where `~` opens nothing.
+/// The answer of a chain that ends where `~` unwraps nothing.
 pub(crate) const NOTHING: u32 = 2;
 
 // For each name how `~` of it leads on.
@@ -85,7 +85,7 @@ fn opening_of(head: Head) -> Link
     }
 }
 
-// For each name how its kind is that of another, where `~` of names opens this.
+// For each name how its kind is that of another, where `~` of names unwraps this.
 pub(crate) fn kind_links(
     alloc: Global,
     terms: &Terms<'_>,

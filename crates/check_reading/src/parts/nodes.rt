@@ -39,7 +39,7 @@ pub(crate) enum Node<'t> {
     Entry(EntryNode<'t>),
 }
 
-/// A node, and the offset at which a fault of it is told.
+/// A node, and the offset at which a fault of it is reported.
 #[derive(Clone, Copy)]
 pub(crate) struct NodePart<'t> {
     pub(crate) at: usize,
@@ -172,7 +172,7 @@ fn controller_part<'t>(
     }
 }
 
-// A control that computes a literal, told at its right side.
+// A control that computes a literal, reported at its right side.
 fn computation<'t>(
     tree: &Tree<'_>,
     left: &'t Type2,

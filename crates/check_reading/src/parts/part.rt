@@ -36,7 +36,7 @@ pub enum Question {
 pub struct Part {
     /// The place of the rule in the list of rules, from 0.
     pub rule: usize,
-    /// The offset in bytes at which a fault of it is told.
+    /// The offset in bytes at which a fault of it is reported.
     pub at: usize,
     pub question: Question,
     pub row: u32,

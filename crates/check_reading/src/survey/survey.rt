@@ -29,7 +29,7 @@ pub struct Survey {
     pub definitions: Vec<Definition>,
     /// Where the definitions of each name stand, by the number of its text.
     pub names: Vec<Name>,
-    /// The kinds of names, and what `~` of each opens.
+    /// The kinds of names, and what `~` of each unwraps.
     pub kinds: Kinds,
     /// The offset in bytes of the name that each rule defines.
     pub starts: Vec<usize>,

@@ -1,4 +1,4 @@
--- What is told of one entry, and of one map, by the flags of its row and of its place.
+-- What is reported for one entry, and of one map, by the flags of its row and of its place.
 use Rattle.std.specs.Prelude.{ℕ, Bool, true, false, ◌||◌, List, Option, Some, None, slice_get}
 use Rattle.check_maps.specs.declared.map_faults.MapFaults.{MapFaults}
 use Rattle.check_reached.specs.declared.asked.Asked.{Asked}

@@ -27,7 +27,7 @@ use std::alloc::{AllocError, Global};
 
 /// The least offset of the first rule of a name whose instance comes back to itself (C12): by itself, after `~` or after `&` it
 /// asks itself before an item is taken or gone into, which RFC 8610 does not say the meaning of. A name that the prelude alone
-/// defines has no rule; where no name that comes back has one, it is told at the first byte.
+/// defines has no rule; where no name that comes back has one, it is reported at the first byte.
 ///
 /// The rows and the numbers of names are of this table, and the offsets are those of the rules' names in the order of the text,
 /// as a survey has them. It takes a time in proportion to the instances.

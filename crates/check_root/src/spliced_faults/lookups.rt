@@ -1,4 +1,4 @@
-//! What is told of rows and places.
+//! What is reported for rows and places.
 
 ghost use Rattle.std.specs.Prelude.{◌≡◌, option_copied, slice_get};
 ghost use Rattle.check_root.specs.SplicedFaults.Lookups as by;

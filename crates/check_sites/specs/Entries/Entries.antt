@@ -64,7 +64,7 @@ abbrev mutual
   bare_operand (S.simple_by o h c) = None
   bare_operand (S.hash t) = None
 
--- the group that `~` of the rule's name opens
+-- the group that `~` of the rule's name unwraps
 abbrev pub opened_in : S.Rule → Option S.Group
 opened_in (S.type_rule n a t) = bare_types t
 opened_in (S.group_rule n a e) = None
@@ -109,7 +109,7 @@ abbrev pub of_rules : ℕ → List S.Rule → List Standing
 of_rules k [] = []
 of_rules k (r ∷ rs) = of_rule k r ++ of_rules (k + 1) rs
 
--- Where an entry of the text stands: in a map at one of these sites, in a rule's body, or in what `~` of its name opens.
+-- Where an entry of the text stands: in a map at one of these sites, in a rule's body, or in what `~` of its name unwraps.
 module _ (rs : List S.Rule) (read : Leaf → Token) (sites : List Found) where
   pub data Stands : ℕ → Holder → S.GrpEnt → Type 0 where
     in_map : {f : Found} {u : Token} {g : S.Group} {e : S.GrpEnt} → Contains sites f → view_site read f.site ≡ a_map u g → Contains (group_inside g) e → Stands f.rule HolderV.Map e

@@ -1,4 +1,4 @@
--- The codes that are told of the whole text.
+-- The codes that are reported for the whole text.
 use Rattle.cddl_token.specs.declared.Code.{Code}
 use Rattle.cddl_token.specs.declared.Code.TheVariants as CodeV
 use Rattle.check_text.specs.declared.everywhere.codes.TextCode.{TextCode}

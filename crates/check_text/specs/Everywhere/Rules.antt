@@ -1,4 +1,4 @@
--- What is told at rules, by the code.
+-- What is reported at rules, by the code.
 use Rattle.std.specs.Prelude.{ℕ, List}
 use Rattle.tree_nodes.specs.Syntax.Syntax as S
 use Rattle.cddl_language.specs.Faults.{IsDuplicate, IsKindClash, Specification}

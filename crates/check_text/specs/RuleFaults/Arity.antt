@@ -8,7 +8,7 @@ use Rattle.check_terms.specs.declared.definition.Definition.{Definition}
 use Rattle.check_names.specs.declared.environment.environment.Name.{Name}
 use Rattle.check_names.specs.Environment.Names.{Standing, standing}
 
--- The part of C4 that is told at rules (`by_rule` of `HasWrongArity`).
+-- The part of C4 that is reported at rules (`by_rule` of `HasWrongArity`).
 pub record HasWrongArityAtRule (s : Specification) (at : ℕ) : Type 0 where
   pub rule : S.Rule
   pub count : ℕ

@@ -1,4 +1,4 @@
--- What is told at the words of a list.
+-- What is reported at the words of a list.
 use Rattle.std.specs.Prelude.{◌≡◌, ℕ, List, Contains, Some, slice_get}
 use Rattle.tree_nodes.specs.Syntax.Syntax as S
 use Rattle.check_terms.specs.Table.{Table}
@@ -6,7 +6,7 @@ use Rattle.check_reading.specs.Words.{IsSaid, Said}
 use Rattle.check_reading.specs.declared.words.word.Word.{Word}
 use Rattle.all_offsets.specs.Offsets.{IsAmong}
 
--- it is told at a word of a rule
+-- it is reported at a word of a rule
 pub record IsToldAt (t : Table) (rs : List S.Rule) (P : S.Rule → Said → ℕ → Type 0) (w : Word) (at : ℕ) : Type 0 where
   pub rule : S.Rule
   pub said : Said

@@ -64,7 +64,7 @@ IsWrongWord UnknownControl ds r x = IsWrongControl x.text x.role
 abbrev pub IsToldAtWord : SiteCode → List Definition → S.Rule → Said → ℕ → Type 0
 IsToldAtWord code ds r x at = IsWrongWord code ds r x × (at ≡ x.at)
 
--- C4, of what is told at names
+-- C4, of what is reported at names
 pub data HasWrongArityAtName (s : Specification) (at : ℕ) : Type 0 where
   by_name : {r : S.Rule} {f : S.Ref} {k : ℕ} → HasName s r f → is_parameter r (ref_name f) ≡ false → parameter_count (definitions s) (ref_name f) ≡ Some k → length (arguments f) ≢ k → at ≡ (ref_token f).start → HasWrongArityAtName s at
   by_parameter : {r : S.Rule} {f : S.Ref} → HasName s r f → is_parameter r (ref_name f) ≡ true → arguments f ≢ [] → at ≡ (ref_token f).start → HasWrongArityAtName s at

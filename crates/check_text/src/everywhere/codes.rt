@@ -19,7 +19,7 @@ use check_reading::survey::Survey;
 use check_terms::Terms;
 use std::alloc::{AllocError, Global};
 
-/// A code that is told of the whole text, whatever its root reaches.
+/// A code that is reported for the whole text, whatever its root reaches.
 #[derive(Clone, Copy, Debug, PartialEq, Eq)]
 pub enum TextCode {
     /// [`Code::Duplicate`].

@@ -1,4 +1,4 @@
-//! All offsets of what is told at rules.
+//! All offsets of what is reported at rules.
 
 ghost use Rattle.std.specs.Prelude.{◌≡◌, IfOk, OnOk, Some, slice_get};
 ghost use Rattle.cddl_language.specs.Faults.{Specification};
@@ -17,7 +17,7 @@ use check_reading::survey::Survey;
 use check_terms::Terms;
 use std::alloc::{AllocError, Global};
 
-/// A code that is told at rules.
+/// A code that is reported at rules.
 #[derive(Clone, Copy, Debug, PartialEq, Eq)]
 pub(crate) enum RuleCode {
     /// A name that is defined twice, or a parameter that stands twice in its list.
@@ -28,7 +28,7 @@ pub(crate) enum RuleCode {
     Arity,
 }
 
-// All offsets at which this code is told at a rule, in the order of the rules. It takes a time in proportion to the text.
+// All offsets at which this code is reported at a rule, in the order of the rules. It takes a time in proportion to the text.
 pub(crate) fn at_rules(
     alloc: Global,
     terms: &Terms<'_>,
@@ -44,7 +44,7 @@ pub(crate) fn at_rules(
     Ok(offsets)
 }
 
-// Adds what is told at the rule at this place.
+// Adds what is reported at the rule at this place.
 fn push_told(
     alloc: Global,
     offsets: &mut Vec<usize>,

@@ -1,4 +1,4 @@
-//! Where the fault of a rule is told: at the offset of the name that it defines.
+//! Where the fault of a rule is reported: at the offset of the name that it defines.
 
 ghost use Rattle.std.specs.Prelude.{◌≡◌, if◌then◌else◌, Some, None};
 

@@ -9,7 +9,7 @@ pub returns : goal.returns
 returns c =
     let text = part_text c.args.text.now c.args.part in
     let read : string_bytes c.in_ok-name.name ≡ part_text c.args.text.now c.args.part = search rules in
-    let other = c.as_str-3.ensures.value ∙ (c.in_ok-other.ensures ∙ ap (λ n. name_words n c.args.behind.now) (c.as_str.ensures.value ∙ read)) in
+    let other = c.as_str-3.ensures.value ∙ (c.in_ok-other.ensures ∙ ap (λ n. name_words n c.args.after.now) (c.as_str.ensures.value ∙ read)) in
     IfOk-weaker c.defined_hint.result _ _
-    (λ told h. among_same (defined_names c.args.tokens.now) c.as_str-2.result.now text c.as_str-3.result.now (name_words text c.args.behind.now) (string_bytes told) (c.as_str-2.ensures.value ∙ read) other h)
+    (λ told h. among_same (defined_names c.args.tokens.now) c.as_str-2.result.now text c.as_str-3.result.now (name_words text c.args.after.now) (string_bytes told) (c.as_str-2.ensures.value ∙ read) other h)
     c.defined_hint.ensures

@@ -7,7 +7,7 @@ use Rattle.cddl_explain.proofs.hints.token_hint.Goals as goal
 pub returns : goal.returns
 returns c =
     let expected = string_bytes c.in_ok-expected.expected in
-    let here = c.args.behind.now in
+    let here = c.args.after.now in
     let comment = c.comment_words-comment.result.now in
     let reading = c.in_ok-reading.ensures ∙ ap (λ o. reading_words o here) c.last.ensures.value in
     IfOk-weaker c.format.result _ _

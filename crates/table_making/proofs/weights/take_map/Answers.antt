@@ -1,4 +1,4 @@
-use Rattle.std.proofs.Common.{◌≡◌, ◌+◌, ◌≤◌, ◌∙◌, List, take, length, arith, ap, sym, subst}
+use Rattle.std.proofs.Common.{◌+◌, ◌∙◌, take, arith, ap, sym}
 use Rattle.std.proofs.lemmas.List.Sums.{sum_by_more}
 use Rattle.table_making.specs.Weights.{entry_parts, map_parts}
 use Rattle.table_making.proofs.weights.take_map.Goals as goal

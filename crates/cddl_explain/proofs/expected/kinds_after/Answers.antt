@@ -2,8 +2,8 @@ use Rattle.std.proofs.Common.{◌≡◌, ◌+◌, [], ◌∷◌, ◌++◌, ap, s
 use Rattle.std.proofs.lemmas.List.{take_more}
 use Rattle.cddl_explain.specs.Expected.{AreExpected, no_kind, may_come, may_not}
 use Rattle.cddl_explain.specs.declared.expected.TheConstants.{KINDS}
-use Rattle.cddl_explain.proofs.expected.kinds_behind.Goals as goal
-use Rattle.cddl_explain.proofs.expected.kinds_behind.Goals.{then-branch+in_ok-push, else-branch}
+use Rattle.cddl_explain.proofs.expected.kinds_after.Goals as goal
+use Rattle.cddl_explain.proofs.expected.kinds_after.Goals.{then-branch+in_ok-push, else-branch}
 
 pub kind-init : goal.kind-init
 kind-init c = subst (λ found. AreExpected c.args.front.now [] found) (sym c.new-found.ensures.items) no_kind
