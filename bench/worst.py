@@ -81,6 +81,15 @@ def optional_entries(size):
     return f"r = [* {{{rows(size, '? N => int')}}}]\n"
 
 
+def alike_bodies(size):
+    """So many calls of a rule with two parameters, of which the body has the first one alone, eight times for each call."""
+    return f"r = [{rows(size, 'm<int, N>')}]\nm<t, u> = [{rows(8 * size, 't', ' / ')}]\n"
+
+
+def chain_of_names(size):
+    return f"t = a0\n{rows(size, 'aN = aM', chr(10))}\na{size} = int / bstr .cbor t\n"
+
+
 def numbers(size):
     return head(4, size) + bytes(size)
 
@@ -88,7 +97,9 @@ def numbers(size):
 CHECKS = [
     ("calls with other arguments, and a long body", arguments, 500, 1000),
     ("a call of itself with a longer argument", lambda size: f"r = [b<int>]\nb<t> = [t, ? b<[{rows(size, 't')}]>]\n", 400, 800),
+    ("calls with other arguments, and bodies that are alike", alike_bodies, 500, 1000),
     ("maps that share a group of many entries", maps_of_a_group, 2000, 4000),
+    ("maps that share a group of many empty groups", lambda size: f"r = [{rows(size, '{N: 1, g}')}]\ng = ({rows(4 * size, '()')})\n", 2000, 4000),
     ("maps that share a group of 512 alternatives", maps_of_alternatives, 2000, 4000),
     ("sizes that extend one list", sizes, 2000, 4000),
     ("joins of a text of 32 KiB", joins, 1000, 2000),
@@ -108,6 +119,9 @@ ITEMS = [
     ("7 and 8 strings round 1 MiB, asked about twice", [], lambda size: (TWICE, strings(size, numbers(MIB))), 7, 8),
     ("texts of up to 500 KB, compared 16 times by each array", [],
      lambda size: (long_literals(size), head(4, 16) + 16 * encoded("a" * 200 * size)), 1250, 2500),
+    ("a long array, taken by so many arrays with a number", [],
+     lambda size: (f"r = {rows(size, '[any, N]', ' / ')}\n", head(4, 2) + numbers(200 * size) + encoded(size)), 1250, 2500),
+    ("names in a chain, and as many strings in each other", [], lambda size: (chain_of_names(size), strings(size)), 1000, 2000),
     ("empty maps, and so many entries that may be absent", [],
      lambda size: (optional_entries(size), head(4, size) + b"\xa0" * size), 8000, 16_000),
     ("other keys than so many literal ones", [], lambda size: (literal_keys(size), other_keys(size)), 8000, 16_000),

@@ -7,7 +7,7 @@ use Rattle.std.proofs.Math.Seq.{drop-append-add, drop-append_seam}
 use Rattle.cbor_data.specs.Value.{Value, Pairs, no_pairs, pair}
 use Rattle.cddl_meaning.specs.Forms.{Language, MapEntry, by_forms, is_passed_over}
 use Rattle.cddl_meaning.specs.Moves.{Sorting, Tally, next_entry, next_pair}
-use Rattle.match_moves.specs.Index.{IsNextAsked}
+use Rattle.match_tests.specs.Index.{IsNextAsked}
 use Rattle.cddl_match.specs.Entering.{ArePassed, IsAskedNext, IsFirstAsked, IsPassed}
 
 module _ {N G : Type 0} (l : Language N G) where

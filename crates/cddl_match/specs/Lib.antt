@@ -6,4 +6,3 @@ pub mod Tellings
 pub mod Open
 pub mod Machine
 pub mod Progress
-pub mod Allowance

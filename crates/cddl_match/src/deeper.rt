@@ -11,10 +11,13 @@ ghost use Rattle.table_nodes.specs.Language.{language_of};
 
 use crate::calls::{Said, Stop};
 use crate::means::Means;
+use crate::replies::{may_test, may_test_bytes};
 use crate::stack::{Run, Turned, step};
 use cbor_item::Item;
-use match_moves::{Move, Question, Reply, Subject};
-use table_nodes::{Table, TypeId};
+use match_held::{Allowance, places_of, work_of_keys};
+use match_moves::{Move, Question, Reply};
+use match_tests::Subject;
+use table_nodes::{Node, Table, TypeId};
 
 // The reply that the first question of a run has.
 fn reply_of<'i>(run: &Run<'_, 'i>) -> Result<Reply<'i>, Stop>
@@ -23,6 +26,60 @@ fn reply_of<'i>(run: &Run<'_, 'i>) -> Result<Reply<'i>, Stop>
     match &run.next {
         Move::Answered(reply) => Ok(*reply),
         _ => Err(Stop::NoMemory),
+    }
+}
+
+// The place of the item that a type is about to be asked of, if that is the next move.
+fn place_asked(next: &Move<'_, '_>) -> Option<usize> {
+    match next {
+        Move::Asks(Question::OfType { place, .. }) => Some(*place),
+        _ => None,
+    }
+}
+
+// Takes for the next move what it may be to make it, and for a reply to a type that was asked at a place just now what it was to
+// count the item's places. Says whether so much may be done yet, and whether so many questions may wait.
+fn may_go_on(
+    allowance: &mut Allowance<'_>,
+    table: &Table,
+    run: &Run<'_, '_>,
+    asked: Option<usize>,
+) -> bool {
+    if !allowance.may_wait(run.waiting.len()) {
+        return false;
+    }
+    match (&run.next, asked) {
+        (Move::Asks(Question::OfType { node, subject, .. }), _) => {
+            may_ask(allowance, table, *node, *subject)
+        }
+        (Move::Asks(Question::OfAlternative { entries, pairs, .. }), _) => {
+            allowance.take_for(entries.len())
+                && allowance.take_for(entries.len().saturating_mul(work_of_keys(pairs)))
+                && allowance.may_count(0, places_of(pairs))
+        }
+        (Move::Answered(Reply::Takes { next, .. }), Some(place)) => {
+            allowance.may_count(place, *next)
+        }
+        _ => true,
+    }
+}
+
+// Takes for a question about this, whose type may be a test or have one after another type.
+fn may_ask(
+    allowance: &mut Allowance<'_>,
+    table: &Table,
+    node: TypeId,
+    subject: Subject<'_>,
+) -> bool {
+    let test = match table.node(node) {
+        Some(Node::Plain(test)) => test,
+        Some(Node::Such(_, test)) => test,
+        _ => return true,
+    };
+    match subject {
+        Subject::Item(item) => may_test(allowance, test, item),
+        Subject::Bytes(bytes) => may_test_bytes(allowance, test, bytes),
+        Subject::Number(_) => true,
     }
 }
 
@@ -43,7 +100,12 @@ pub(crate) fn replied_by_turns<'t, 'i>(
         taken: 0,
         owed: 0,
     };
+    let mut asked = None;
     'turns: loop {
+        if !may_go_on(&mut means.shelf.allowance, table, &run, asked) {
+            return Err(Stop::NoMemory);
+        }
+        asked = place_asked(&run.next);
         match step(table, &mut means.shelf, &mut run, steps) {
             Turned::GoesOn => {}
             Turned::Replied => {

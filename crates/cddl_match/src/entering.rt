@@ -3,13 +3,14 @@
 ghost use Rattle.std.specs.Prelude.{◌≡◌, IfSome};
 ghost use Rattle.cddl_match.specs.Entering.{ArePassed, EndIn, IsFirstAsked};
 ghost use Rattle.item_nodes.specs.View.{view};
-ghost use Rattle.match_moves.specs.Places.{IsIndexOf};
+ghost use Rattle.match_tests.specs.Places.{IsIndexOf};
 ghost use Rattle.table_nodes.specs.Language.{language_of};
 ghost use Rattle.table_nodes.specs.Nodes.{entries_view};
 ghost use Rattle.table_nodes.specs.declared.table.Table.{Table as Tables};
 
 use item_nodes::Item;
-use match_moves::{KeyIndex, is_passed_over};
+use match_held::work_of_keys;
+use match_tests::{KeyIndex, is_passed_over};
 use std::alloc::Global;
 use table_nodes::{MapEntry, Table};
 
@@ -46,6 +47,18 @@ pub(crate) fn index_for<'t>(
         return None;
     }
     KeyIndex::new(alloc, table, entries)
+}
+
+// How much work it may be that the pairs of a map pass over these entries. By an index each pair finds its own.
+pub(crate) fn work_for(
+    index: Option<&KeyIndex<'_>>,
+    entries: &[MapEntry],
+    pairs: &[(Item, Item)],
+) -> usize {
+    match index {
+        Some(_) => entries.len().saturating_mul(INDEXED_PAIRS),
+        None => entries.len().saturating_mul(work_of_keys(pairs)),
+    }
 }
 
 // These last entries of an alternative from the first one on that a pair with this key is not known to pass over.

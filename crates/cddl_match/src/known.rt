@@ -15,6 +15,7 @@ use crate::calls::Said;
 use crate::means::Means;
 use crate::replies::said_of;
 use cbor_item::Item;
+use match_held::Allowance;
 use table_nodes::{Table, Told, TypeId, major_of};
 
 // What the table keeps of a type for an item of this kind.
@@ -41,4 +42,15 @@ pub(crate) fn said_in(
     };
     means.left = left;
     said_of(says, place, item)
+}
+
+// What is said of an item at a place, whose places were counted for a yes, unless no more may be done.
+#[inline(always)]
+pub(crate) fn counted_for(allowance: &mut Allowance<'_>, place: usize, said: Said) -> Said
+    ensures { (l : Language TypeId GroupId) (q : M.Question TypeId GroupId) (steps left : ℕ) → Says l q steps left (said_view said) → Says l q steps left (said_view result) }
+{
+    match said {
+        Said::Yes { next } if !allowance.may_count(place, next) => Said::NoMemory,
+        _ => said,
+    }
 }

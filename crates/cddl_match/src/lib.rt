@@ -1,7 +1,6 @@
 //! Whether an item matches a type (RFC 8610 sections 2 and 3 and appendix A).
 #![tactic(auto)]
 
-mod allowance;
 mod answers;
 mod behind;
 mod calls;
@@ -13,10 +12,8 @@ mod laws;
 mod looking;
 mod machine;
 mod means;
-mod reading;
 mod replies;
 mod saying;
-mod shelf;
 mod stack;
 mod tallied;
 mod telling;
@@ -28,6 +25,4 @@ pub use crate::laws::{
     turns_answer_alike, turns_are_few,
 };
 pub use crate::machine::Machine;
-pub use crate::reading::held_in;
-pub use crate::shelf::{Cells, Shelf};
-pub use crate::stack::held_on;
+pub use match_held::Cells;

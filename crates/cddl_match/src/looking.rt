@@ -11,7 +11,9 @@ ghost use Rattle.table_nodes.specs.declared.nodes.GroupId.{GroupId};
 use crate::behind::{group_behind, type_behind};
 use crate::telling::{DEEPEST, form_tells};
 use cbor_item::Item;
-use match_moves::{Reply, Round, Rounds, Subject, after_round, entry_reply, is_over, said_reply};
+use match_held::is_small;
+use match_moves::{Reply, Round, Rounds, after_round, entry_reply, is_over, said_reply};
+use match_tests::Subject;
 use table_nodes::{Group, GroupId, Node, Table};
 
 /// The entry that a group leads to.
@@ -60,6 +62,10 @@ fn told<'i>(
     match items {
         [] => Some((Reply::Fails { far: base }, groups)),
         [item, rest @ ..] => {
+            // What takes longer than a moment is asked where that is counted.
+            if !is_small(item) {
+                return None;
+            }
             let types = u64::from(entered.types) + 1;
             let left = left.checked_sub(types)?;
             let subject = Subject::Item(item);

@@ -14,10 +14,11 @@ ghost use Rattle.cddl_meaning.specs.Ranks.Decided.{IsDecided};
 ghost use Rattle.table_nodes.specs.Language.{RootSays, language_of, ranks_of, root_form};
 
 use crate::answers::{End, Verdict};
-use crate::shelf::{Cells, Shelf};
 use crate::stack::{Run, Turned, step};
 use cbor_item::Sound;
-use match_moves::{Move, Question, Reply, Subject};
+use match_held::{Cells, Shelf};
+use match_moves::{Move, Question, Reply};
+use match_tests::Subject;
 use std::alloc::{AllocError, Global};
 use std::marker::Model;
 use table_nodes::Table;
@@ -109,7 +110,7 @@ impl<'t, 'i> Machine<'t, 'i> {
     /// Takes a turn. One that answers `None` asks one question more; or tries a pair of a map, or comes to an entry that is asked
     /// about it; or counts a bit that is set; or takes the last question off, which has its reply. All but the last are steps.
     /// Entries that a pair passes over are gone by in the turn that goes on after them, at no step. From an answer on each turn
-    /// answers the same.
+    /// answers the same. A turn takes a time in proportion to the item and to the entries of an alternative at most.
     ///
     /// # Errors
     ///

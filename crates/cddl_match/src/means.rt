@@ -1,6 +1,6 @@
 //! What judgements may use.
 
-use crate::shelf::Shelf;
+use match_held::Shelf;
 
 /// The steps that are left, and where items are kept.
 #[derive(Drop)]

@@ -18,8 +18,47 @@ ghost use Rattle.table_nodes.specs.declared.nodes.TypeId.{TypeId};
 use crate::calls::{Said, Stop};
 use crate::means::Means;
 use cbor_item::Item;
-use match_moves::{Reply, Subject, left_after_bits, passes, place_after, plus};
+use match_held::Allowance;
+use match_moves::{Reply, place_after, plus};
+use match_tests::{Subject, left_after_bits, passes};
 use table_nodes::{Table, Test};
+
+// Takes for the comparison of a string with a literal of as many bytes, where these are many, and says whether so much may be done
+// yet.
+#[inline(always)]
+pub(crate) fn may_test(allowance: &mut Allowance<'_>, test: &Test, item: &Item) -> bool {
+    match test {
+        Test::Equals(literal) | Test::Differs(literal) => may_compare(allowance, literal, item),
+        _ => true,
+    }
+}
+
+fn may_compare(allowance: &mut Allowance<'_>, literal: &Item, item: &Item) -> bool {
+    match (literal, item) {
+        (Item::Bytes(some), Item::Bytes(others)) => {
+            may_compare_strings(allowance, some.len(), others.len())
+        }
+        (Item::Text(some), Item::Text(others)) => {
+            may_compare_strings(allowance, some.len(), others.len())
+        }
+        _ => true,
+    }
+}
+
+// Strings of different lengths are told apart by these.
+fn may_compare_strings(allowance: &mut Allowance<'_>, some: usize, others: usize) -> bool {
+    some != others || allowance.may_compare(some)
+}
+
+// The same for a byte string of these bytes.
+pub(crate) fn may_test_bytes(allowance: &mut Allowance<'_>, test: &Test, bytes: &[u8]) -> bool {
+    match test {
+        Test::Equals(Item::Bytes(literal)) | Test::Differs(Item::Bytes(literal)) => {
+            may_compare_strings(allowance, literal.len(), bytes.len())
+        }
+        _ => true,
+    }
+}
 
 // What is said of an item that has passed a test, or not.
 #[inline(always)]
@@ -151,6 +190,9 @@ pub(crate) fn test_behind(
 ) -> Said
     ensures { (l : Language TypeId GroupId) → Ends l (M.tested_move (test_view test.now) place next (view item.now)) means.old.left means.new.left (said_view result) }
 {
+    if !may_test(&mut means.shelf.allowance, test, item) {
+        return Said::NoMemory;
+    }
     let Some(left) = left_after_bits(test, Subject::Item(item), means.left) else {
         return Said::Spent;
     };

@@ -7,7 +7,7 @@ ghost use Rattle.cddl_meaning.specs.Forms as F;
 ghost use Rattle.cddl_meaning.specs.Forms.{bytes_in, members_in, simple_in};
 ghost use Rattle.cddl_meaning.specs.Judges as J;
 ghost use Rattle.cddl_meaning.specs.Moves as M;
-ghost use Rattle.match_moves.specs.Places.{IsIndexOf};
+ghost use Rattle.match_tests.specs.Places.{IsIndexOf};
 ghost use Rattle.match_moves.specs.Views.{parts_move, rounds_move, values};
 ghost use Rattle.cddl_match.specs.Tellings.{IsTallied, KeySays, Meets, Sorts, Tallies};
 ghost use Rattle.cddl_match.specs.Within.{Ends, Says, done_view, said_view};
@@ -18,22 +18,22 @@ ghost use Rattle.table_nodes.specs.declared.nodes.TypeId.{TypeId};
 use crate::behind::{group_behind, type_behind};
 use crate::calls::{Said, Stop};
 use crate::deeper::{replied_by_turns, type_by_turns};
-use crate::entering::{index_for, unpassed};
-use crate::known::{said_in, told_of};
+use crate::entering::{index_for, unpassed, work_for};
+use crate::known::{counted_for, said_in, told_of};
 use crate::looking::rounds_told;
 use crate::means::Means;
 use crate::replies::{
-    array_said, either_said, entry_done, held_said, key_tested, simple_said, test_behind,
+    array_said, either_said, entry_done, held_said, key_tested, may_test, simple_said, test_behind,
     test_says, tested,
 };
-use crate::shelf::{Cells, Shelf};
 use crate::tallied::{Tallied, nothing_tallied, told_with};
 use cbor_item::Item;
+use match_held::{Cells, Shelf};
 use match_moves::{
-    Fate, KeyIndex, Parts, Question, Reply, Round, Rounds, after_round, begin_tally, bytes_of,
-    first_are_enough, is_over, is_passed_over, items_of, pairs_of, place_after, plus, simple_of,
-    tally_pair,
+    Fate, Parts, Question, Reply, Round, Rounds, after_round, begin_tally, bytes_of,
+    first_are_enough, is_over, items_of, pairs_of, place_after, plus, simple_of, tally_pair,
 };
+use match_tests::{KeyIndex, is_passed_over};
 use table_nodes::{Content, Group, GroupId, MapEntry, Node, Table, TagNumber, Test, Told, TypeId};
 
 // What a type says of an item. Tests are asked where this is called, since most types that are asked in a loop are tests, or
@@ -52,13 +52,18 @@ fn type_says_here<'i>(
 {
     let told = told_of(table, node, item);
     if let Told::Yes(steps) = told {
-        return said_in(means, true, steps, place, item);
+        let said = said_in(means, true, steps, place, item);
+        return counted_for(&mut means.shelf.allowance, place, said);
     }
     if let Told::No(steps) = told {
         return said_in(means, false, steps, place, item);
     }
     if let Some(Node::Plain(test)) = table.node(node) {
-        return test_says(means, test, place, item);
+        if !may_test(&mut means.shelf.allowance, test, item) {
+            return Said::NoMemory;
+        }
+        let said = test_says(means, test, place, item);
+        return counted_for(&mut means.shelf.allowance, place, said);
     }
     if depth == 0 {
         return type_by_turns(table, means, node, place, item);
@@ -72,7 +77,13 @@ fn type_says_here<'i>(
         return Said::No { far: place };
     };
     match form {
-        Node::Plain(test) => tested(test, place, item),
+        Node::Plain(test) => {
+            if !may_test(&mut means.shelf.allowance, test, item) {
+                return Said::NoMemory;
+            }
+            let said = tested(test, place, item);
+            counted_for(&mut means.shelf.allowance, place, said)
+        }
         Node::Choice(members) => choice_says(table, means, members, place, item, depth - 1),
         _ => form_says(table, means, form, place, item, depth - 1),
     }
@@ -367,6 +378,10 @@ fn alternative_says<'t, 'i>(
     ensures says { Says (language_of table.now) (M.OfAlternative (entries_view entries.now) base (pairs_view pairs.now)) means.old.left means.new.left (said_view result) }
     ensures known { IsTallied (language_of table.now) base (pairs_view pairs.now) tallied.new }
 {
+    // Its entries are gone through at the end, also those that no pair belongs to.
+    if !means.shelf.allowance.take_for(entries.len()) {
+        return Said::NoMemory;
+    }
     if let Some(told) = tallied.told_in(entries) {
         return tallied.says_again(table, means, told, entries, base, pairs);
     }
@@ -401,6 +416,13 @@ fn tally_pairs<'t, 'i>(
     };
     let index = index_for(means.shelf.alloc, table, entries, pairs.len());
     let index = index.as_ref();
+    if !means
+        .shelf
+        .allowance
+        .take_for(work_for(index, entries, pairs))
+    {
+        return Err(Stop::NoMemory);
+    }
     let mut told = Some(0);
     let steps = means.left;
     let mut place = plus(base, 1);
@@ -416,6 +438,9 @@ fn tally_pairs<'t, 'i>(
         tally_pair(&mut tallied.tally, fate);
         place = place_after(&pair.1, place_after(&pair.0, place));
         left = others;
+    }
+    if !means.shelf.allowance.may_count(base, place) {
+        return Err(Stop::NoMemory);
     }
     tallied.entries = entries;
     tallied.told = told;
@@ -473,6 +498,9 @@ fn entry_meets<'i>(
         Said::NoMemory => return Err(Stop::NoMemory),
     }
     let value_place = place_after(&pair.0, place);
+    if !means.shelf.allowance.may_count(place, value_place) {
+        return Err(Stop::NoMemory);
+    }
     match type_says_here(table, means, entry.value_type, value_place, &pair.1, depth) {
         Said::Yes { .. } => return Ok(Some(Fate::Matches { after })),
         Said::No { far } => {

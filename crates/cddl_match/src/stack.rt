@@ -1,31 +1,27 @@
 //! What a machine keeps while it asks: the questions that wait, each with what it waits for, and its next move.
 
-ghost use Rattle.std.specs.Prelude.{◌≡◌, ◌⊎◌, ◌<◌, ◌≤◌, ℕ, [], true, IfOk, OnErr, MatchOption, vec_capacity, vec_len};
-ghost use Rattle.cbor_data.specs.Value.{Value};
+ghost use Rattle.std.specs.Prelude.{◌≡◌, ◌⊎◌, ◌<◌, ◌≤◌, ℕ, [], true, IfOk, OnErr, vec_capacity, vec_len};
 ghost use Rattle.cddl_meaning.specs.Forms.{Language};
-ghost use Rattle.cddl_meaning.specs.Held.{Holds};
 ghost use Rattle.cddl_meaning.specs.Moves as M;
 ghost use Rattle.cddl_match.specs.Entering.{IsAskedNext};
 ghost use Rattle.cddl_match.specs.Machine.{Finds, FindsAt, Goes, GoesFrom, IsKept, NeedsMore, WaitsAt, asked_in, asks_in, found_in, is_alternative, next_in};
-ghost use Rattle.match_moves.specs.Views.{entering_move, move_view, pending_view, question_view, reading_move, reply_view, sorting_view, subject_view, weighing_move};
+ghost use Rattle.match_moves.specs.Views.{entering_move, move_view, pending_view, question_view, reading_move, reply_view, sorting_view, weighing_move};
 ghost use Rattle.match_moves.specs.declared.questions.Reply as R;
 ghost use Rattle.match_moves.specs.declared.questions.Entering as E;
 ghost use Rattle.match_moves.specs.declared.questions.Sorting as C;
 ghost use Rattle.table_nodes.specs.Language.{language_of};
-ghost use Rattle.table_nodes.specs.Nodes.{content_view};
 ghost use Rattle.table_nodes.specs.declared.nodes.GroupId.{GroupId};
 ghost use Rattle.table_nodes.specs.declared.nodes.TypeId.{TypeId};
 ghost use Rattle.table_nodes.specs.declared.table.Table.{Table};
 
 use crate::entering::asked_from;
-use crate::reading::string_in;
-use crate::shelf::Shelf;
 use history::History;
+use match_held::{Shelf, held_on};
 use match_moves::{
-    Entering, Move, Pending, PendingType, Question, Reading, Reply, Subject, Weighing,
-    alternative_move, enter, first_of_group, first_of_type, is_passed_over, left_after_bits,
-    next_entry, next_move, weighed_reply,
+    Entering, Move, Pending, PendingType, Question, Reading, Reply, Weighing, alternative_move,
+    enter, first_of_group, first_of_type, next_entry, next_move, weighed_reply,
 };
+use match_tests::{is_passed_over, left_after_bits};
 use std::alloc::{AllocError, Global};
 use std::mem;
 use table_nodes::Table;
@@ -259,27 +255,6 @@ fn ask<'t, 'i>(
     }
     run.taken += 1;
     Turned::GoesOn
-}
-
-/// What a byte string holds, if it holds something. A string that is all it holds stays where it is, and else that is read, and
-/// put on the shelf.
-///
-/// # Errors
-///
-/// `AllocError` where there is no memory for it, or where the shelf allows no more bytes to be read or kept.
-pub fn held_on<'i>(
-    shelf: &mut Shelf<'i>,
-    reading: Reading<'i>,
-) -> Result<Option<Subject<'i>>, AllocError>
-    ensures { IfOk result (λ held. MatchOption held ((y : Value) → Holds (content_view reading.entry.content) reading.entry.bytes.now y → ⊥) (λ subject. Holds (content_view reading.entry.content) reading.entry.bytes.now (subject_view subject))) }
-{
-    if let Some(string) = string_in(reading.content, reading.bytes) {
-        return Ok(Some(Subject::Bytes(string)));
-    }
-    let Some(item) = shelf.held(reading.content, reading.bytes)? else {
-        return Ok(None);
-    };
-    Ok(Some(Subject::Item(shelf.keep(item, reading.bytes.len())?)))
 }
 
 // A byte string is read, and a type is asked of what it holds; if it holds nothing, that is the last question's reply. There

@@ -2,12 +2,12 @@
 
 ghost use Rattle.std.specs.Prelude.{◌≤◌, IfSome};
 ghost use Rattle.cddl_match.specs.Ahead.{AreTold, IsTold, IsTypeTold};
-ghost use Rattle.match_moves.specs.Views.{subject_view};
+ghost use Rattle.match_tests.specs.Views.{subject_view};
 ghost use Rattle.table_nodes.specs.Language.{language_of};
 ghost use Rattle.table_nodes.specs.Nodes.{type_view};
 
 use crate::behind::type_behind;
-use match_moves::{Subject, passes_test};
+use match_tests::{Subject, passes_test};
 use table_nodes::{Node, Table, TypeId};
 
 /// Choices in choices are looked into so deep, so that few tests are made in vain where something else is in them.

@@ -7,8 +7,8 @@ ghost use Rattle.cddl_reasons.specs.Told.{holder_view};
 ghost use Rattle.cddl_mismatch.specs.Places.{steps_to, AreWordsAt, ArePlaceWords, HoldsAt, IsValueShown};
 
 use cbor_item::{Item, item_at, path_text};
-use cddl_match::held_in;
 use cddl_reasons::Holder;
+use match_held::held_in;
 use match_moves::bytes_of;
 use mismatch_words::{path_words, shown_value};
 use std::alloc::{AllocError, Global};

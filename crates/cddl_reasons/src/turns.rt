@@ -15,11 +15,12 @@ use crate::aims::{Aim, is_at, wanted_in};
 use crate::found::{Found, Mark};
 use crate::run::{Open, Run, Wanted};
 use crate::telling::{note_counts, tell};
-use cddl_match::{Shelf, held_on};
+use match_held::{Shelf, held_on};
 use match_moves::{
     Entering, Move, Pending, PendingType, Question, Reading, Reply, Sorting, alternative_move,
-    enter, first_of_group, first_of_type, is_passed_over, next_entry, next_move, weighed_reply,
+    enter, first_of_group, first_of_type, next_entry, next_move, weighed_reply,
 };
+use match_tests::is_passed_over;
 use std::alloc::{AllocError, Global};
 use std::mem;
 use table_nodes::Table;

@@ -27,7 +27,8 @@ use rooms::Room;
 use std::alloc::Global;
 
 // What a closed reference means: the body of each definition of its name, with the arguments in the place of the parameters.
-// The arguments, the bodies, and the rows that are filled take room.
+// The arguments and the bodies take room, and so does each row of a body that holds a parameter, whether the filled one is new or
+// there already.
 pub(crate) fn bodies_of(
     alloc: Global,
     room: &mut Room,
@@ -147,10 +148,9 @@ fn fill_at(
     let Some(pattern) = pattern_at(patterns, place) else {
         return Err(Lack::Memory);
     };
-    let rows = terms.len();
-    let row = pattern.template.fill(alloc, terms, arguments)?;
     take(room, 1)?;
-    take(room, terms.len().saturating_sub(rows))?;
+    take(room, pattern.template.steps())?;
+    let row = pattern.template.fill(alloc, terms, arguments)?;
     Ok(with_row(pattern.body, row))
 }
 

@@ -1,4 +1,1 @@
 mod Lists
-mod OfBits
-mod OfIndex
-mod OfKeys

@@ -1,6 +1,6 @@
 -- What the code's questions, replies and frames stand for.
 use Rattle.std.specs.Prelude.{ℕ, List, map, take, nat_le, if◌then◌else◌}
-use Rattle.cbor_data.specs.Value.{Value, uint, bytes, place_count}
+use Rattle.cbor_data.specs.Value.{Value, place_count}
 use Rattle.item_nodes.specs.View.{pairs_view, view}
 use Rattle.item_nodes.specs.declared.item.Item.{Item}
 use Rattle.cddl_meaning.specs.Forms.{bits_asked, passes}
@@ -10,8 +10,7 @@ use Rattle.table_nodes.specs.declared.nodes.TypeId.{TypeId}
 use Rattle.table_nodes.specs.declared.nodes.GroupId.{GroupId}
 use Rattle.table_nodes.specs.Nodes.{alternatives_view, content_view, entries_view, entry_view, most_view, test_view}
 use Rattle.match_moves.specs.declared.counts.Counts.{Counts}
-use Rattle.match_moves.specs.declared.questions.Subject.{Subject}
-use Rattle.match_moves.specs.declared.questions.Subject.TheVariants as S
+use Rattle.match_tests.specs.Views.{subject_view}
 use Rattle.match_moves.specs.declared.questions.Question.{Question}
 use Rattle.match_moves.specs.declared.questions.Question.TheVariants.{OfType, OfGroup, OfAlternative}
 use Rattle.match_moves.specs.declared.questions.Reply.{Reply}
@@ -41,12 +40,6 @@ use Rattle.match_moves.specs.declared.questions.Move.TheVariants.{Answered, Asks
 -- items, as contracts see them
 abbrev pub values : List Item → List Value
 values xs = map view xs
-
--- The number of a tag or of a simple value is asked about as an unsigned item, and bytes in a byte string as a string.
-abbrev pub subject_view : Subject → Value
-subject_view (S.Item i) = view i.now
-subject_view (S.Number n) = uint n
-subject_view (S.Bytes b) = bytes b.now
 
 -- counts, those of few entries and those of more
 abbrev pub counts_view : Counts → List ℕ

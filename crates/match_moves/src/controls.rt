@@ -4,14 +4,15 @@ ghost use Rattle.std.specs.Prelude.{◌≡◌};
 ghost use Rattle.cddl_meaning.specs.Forms.{Both, Such, Holding, bits_asked, bytes_in, passes};
 ghost use Rattle.cddl_meaning.specs.Moves as M;
 ghost use Rattle.cddl_meaning.specs.Moves.{InHeld, InHolder, InLeft, InSuch, next_move, read_move, such_reply, tested_move, type_move};
-ghost use Rattle.match_moves.specs.Views.{move_view, pending_view, reply_view, subject_view, weighing_move};
+ghost use Rattle.match_moves.specs.Views.{move_view, pending_view, reply_view, weighing_move};
+ghost use Rattle.match_tests.specs.Views.{subject_view};
 ghost use Rattle.table_nodes.specs.declared.nodes.GroupId.{GroupId};
 ghost use Rattle.table_nodes.specs.declared.nodes.TypeId.{TypeId};
 ghost use Rattle.table_nodes.specs.Nodes.{content_view, test_view};
 
-use crate::questions::{Move, Pending, PendingType, Question, Reading, Reply, Subject, Weighing};
-use crate::tested::passes_test;
+use crate::questions::{Move, Pending, PendingType, Question, Reading, Reply, Weighing};
 use item_nodes::Item;
+use match_tests::{Subject, passes_test};
 use table_nodes::{Content, Test, TypeId};
 
 // Of two types the left one is asked first.

@@ -2,34 +2,26 @@
 //! one small function for each form. Whoever asks keeps what waits.
 #![tactic(auto)]
 
-mod bits;
 mod contents;
 mod controls;
 mod counts;
-mod index;
-mod keys;
 mod moves;
 mod places;
 mod questions;
 mod sorting;
-mod tested;
 
-pub use crate::bits::left_after_bits;
 pub use crate::contents::{bytes_of, items_of, pairs_of, simple_of};
 pub use crate::controls::weighed_reply;
 pub use crate::counts::Counts;
-pub use crate::index::KeyIndex;
-pub use crate::keys::is_passed_over;
 pub use crate::moves::{
     after_round, entry_reply, first_of_group, first_of_type, is_over, next_move, said_reply,
 };
 pub use crate::places::{place_after, plus};
 pub use crate::questions::{
     Entering, Fate, Move, Parts, Pending, PendingGroup, PendingMap, PendingType, Question, Reading,
-    Reply, Round, Rounds, Sorting, Subject, Tally, Weighing,
+    Reply, Round, Rounds, Sorting, Tally, Weighing,
 };
 pub use crate::sorting::{
     alternative_move, begin_tally, enter, first_are_enough, next_entry, no_tally, shown_by_first,
     shown_by_tally, tally_pair,
 };
-pub use crate::tested::{passes, passes_test};

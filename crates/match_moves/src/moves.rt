@@ -31,7 +31,8 @@ ghost use Rattle.cddl_meaning.specs.Moves.{
   type_move,
   yes_reply,
 };
-ghost use Rattle.match_moves.specs.Views.{parts_move, pending_group_view, pending_type_view, pending_view, move_view, reply_view, round_move, rounds_move, subject_view, values};
+ghost use Rattle.match_moves.specs.Views.{parts_move, pending_group_view, pending_type_view, pending_view, move_view, reply_view, round_move, rounds_move, values};
+ghost use Rattle.match_tests.specs.Views.{subject_view};
 ghost use Rattle.match_moves.specs.declared.questions.PendingGroup.TheVariants as P;
 ghost use Rattle.match_moves.specs.declared.questions.Rounds.{Rounds};
 ghost use Rattle.table_nodes.specs.declared.nodes.GroupId.{GroupId};
@@ -44,11 +45,11 @@ use crate::controls::{
 };
 use crate::places::{place_after, plus};
 use crate::questions::{
-    Move, Parts, Pending, PendingGroup, PendingType, Question, Reply, Round, Rounds, Subject,
+    Move, Parts, Pending, PendingGroup, PendingType, Question, Reply, Round, Rounds,
 };
 use crate::sorting::{map_move, next_of_map};
-use crate::tested::passes_test;
 use item_nodes::Item;
+use match_tests::{Subject, passes_test};
 use std::mem;
 use table_nodes::{Group, GroupId, Most, Node, Table, TagNumber, Test, TypeId};
 

@@ -2,19 +2,8 @@
 
 use crate::counts::Counts;
 use item_nodes::Item;
+use match_tests::Subject;
 use table_nodes::{Content, GroupId, MapEntry, Most, Test, TypeId};
-
-/// What a type is asked of.
-#[derive(Clone, Copy)]
-pub enum Subject<'i> {
-    Item(&'i Item),
-    /// The number of a tag or of a simple value, as an unsigned item. It is no item of the stream, and is made when a test
-    /// asks for it.
-    Number(u64),
-    /// A byte string of these bytes, which are in another byte string that holds it alone. So they are not copied, however
-    /// many strings are in each other.
-    Bytes(&'i [u8]),
-}
 
 /// A type asked of an item, a group asked of items, or an alternative of a map asked of pairs.
 #[derive(Clone, Copy)]

@@ -29,7 +29,8 @@ ghost use Rattle.cddl_meaning.specs.Moves.{
   tally_says,
 };
 ghost use Rattle.match_moves.specs.Tallies.{counted_again};
-ghost use Rattle.match_moves.specs.Views.{counts_view, fate_view, move_view, pending_map_view, pending_view, reply_view, sorting_view, subject_view, tally_view};
+ghost use Rattle.match_moves.specs.Views.{counts_view, fate_view, move_view, pending_map_view, pending_view, reply_view, sorting_view, tally_view};
+ghost use Rattle.match_tests.specs.Views.{subject_view};
 ghost use Rattle.table_nodes.specs.declared.nodes.GroupId.{GroupId};
 ghost use Rattle.table_nodes.specs.declared.nodes.TypeId.{TypeId};
 ghost use Rattle.table_nodes.specs.Nodes.{alternatives_view, entries_view, entry_view, most_view};
@@ -37,9 +38,10 @@ ghost use Rattle.table_nodes.specs.Nodes.{alternatives_view, entries_view, entry
 use crate::counts::Counts;
 use crate::places::{place_after, plus};
 use crate::questions::{
-    Entering, Fate, Move, Pending, PendingMap, Question, Reply, Sorting, Subject, Tally,
+    Entering, Fate, Move, Pending, PendingMap, Question, Reply, Sorting, Tally,
 };
 use item_nodes::Item;
+use match_tests::Subject;
 use std::alloc::{AllocError, Global};
 use table_nodes::{MapEntry, Most};
 

@@ -1,6 +1,6 @@
 //! A template: a body that is filled with the arguments of each of its instances.
 
-ghost use Rattle.std.specs.Prelude.{◌≡◌, ℕ, List, IfOk, Some};
+ghost use Rattle.std.specs.Prelude.{◌≡◌, ℕ, List, IfOk, Some, length};
 ghost use Rattle.cddl_language.specs.Terms.{Text};
 ghost use Rattle.check_terms.specs.Definitions.{AreTexts};
 ghost use Rattle.check_terms.specs.Filled.{filled};
@@ -55,6 +55,13 @@ impl Template {
         is_table(terms);
         let rows = rows_of(alloc, terms, body)?;
         template_of(alloc, terms, &slots.places, rows, body)
+    }
+
+    /// How many rows of the body hold a parameter: what it takes to fill it. Takes no memory.
+    pub fn steps(&self) -> usize
+        ensures { result ≡ length self.now.steps.items }
+    {
+        self.steps.len()
     }
 
     /// The number of the body with the arguments in the place of the parameters (RFC 8610 section 3.10). A parameter without

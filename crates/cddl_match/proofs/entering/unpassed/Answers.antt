@@ -2,7 +2,7 @@ use Rattle.std.proofs.Common.{◌≡◌, ◌-◌, ◌≤◌, length, refl, subst
 use Rattle.std.proofs.lemmas.List.{length-append}
 use Rattle.std.specs.List.{drop-map}
 use Rattle.item_nodes.specs.View.{view}
-use Rattle.match_moves.specs.Index.{IsNextAsked}
+use Rattle.match_tests.specs.Index.{IsNextAsked}
 use Rattle.table_nodes.specs.Language.{language_of}
 use Rattle.table_nodes.specs.Nodes.{entries_view, entry_view}
 use Rattle.cddl_match.specs.Entering.{ArePassed}

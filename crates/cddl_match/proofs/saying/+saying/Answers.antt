@@ -12,7 +12,7 @@ use Rattle.table_nodes.specs.Majors.{told_view}
 use Rattle.table_nodes.specs.Nodes.{alternatives_view, content_view, entries_view, entry_view, most_view, test_view, type_view}
 use Rattle.table_nodes.specs.declared.nodes.GroupId.{GroupId}
 use Rattle.cddl_match.specs.Ahead.{ComesTo}
-use Rattle.match_moves.specs.Places.{IsIndexOf}
+use Rattle.match_tests.specs.Places.{IsIndexOf}
 use Rattle.match_moves.specs.Views.{reply_view, rounds_move, tally_view, values}
 use Rattle.cddl_match.specs.Within.{Replied, Stopped, Says, done_view, said_view}
 use Rattle.item_nodes.proofs.Lemmas.{view-Uint}
@@ -28,21 +28,22 @@ pub type_says_here-returns-in_default-checked_sub : goal.type_says_here-returns-
 type_says_here-returns-in_default-checked_sub t c = type_few (language_of c.args.table.now) c.args.place (view c.args.item.now) c.args.means.now.left c.args.means.now.left c.type_behind-behind.ensures.passed (omega (arith, c.ranges.place.fits)) (omega (arith, c.in_default-checked_sub.ensures, c.from.ensures))
 
 pub type_says_here-returns-in-Yes : goal.type_says_here-returns-in-Yes
-type_says_here-returns-in-Yes t c = c.said_in.ensures (language_of c.args.table.now) c.args.node (c.told_of-told.ensures (true, c.in-Yes.steps) (ap told_view c.in-Yes.is))
+type_says_here-returns-in-Yes t c = c.counted_for.ensures (language_of c.args.table.now) (M.OfType c.args.node c.args.place (view c.args.item.now)) c.args.means.now.left c.said_in-said.new.means.left (c.said_in-said.ensures (language_of c.args.table.now) c.args.node (c.told_of-told.ensures (true, c.in-Yes.steps) (ap told_view c.in-Yes.is)))
 
 pub type_says_here-returns-in-No : goal.type_says_here-returns-in-No
-type_says_here-returns-in-No t c = c.said_in-in-No.ensures (language_of c.args.table.now) c.args.node (c.told_of-told.ensures (false, c.in-No.steps) (ap told_view c.in-No.is))
+type_says_here-returns-in-No t c = c.said_in.ensures (language_of c.args.table.now) c.args.node (c.told_of-told.ensures (false, c.in-No.steps) (ap told_view c.in-No.is))
 
 pub type_says_here-returns-in-Some-Plain : goal.type_says_here-returns-in-Some-Plain
-type_says_here-returns-in-Some-Plain t c = c.test_says.ensures (language_of c.args.table.now) c.args.node (rw c.in-Some-Plain.field-0-is at c.in-Some-Plain.ensures.found)
+type_says_here-returns-in-Some-Plain t c = c.counted_for-in-Some-Plain.ensures (language_of c.args.table.now) (M.OfType c.args.node c.args.place (view c.args.item.now)) c.args.means.now.left c.test_says-said.new.means.left (c.test_says-said.ensures (language_of c.args.table.now) c.args.node (rw c.in-Some-Plain.field-0-is at c.in-Some-Plain.ensures.found))
 
 pub type_says_here-returns-in_default-form : goal.type_says_here-returns-in_default-form
 type_says_here-returns-in_default-form t c = type_on (language_of c.args.table.now) c.args.place (view c.args.item.now) c.args.means.now.left c.in-Some.left c.in-Some.left (Replied (J.Fails c.args.place)) c.type_behind-behind.ensures.passed (omega (arith, c.ranges.place.fits)) (rw c.in_default-form.is at c.type_behind-behind.ensures.form) (omega (arith, c.in-Some.ensures, c.from.ensures)) (answered (language_of c.args.table.now) c.in-Some.left (J.Fails c.args.place))
 
-pub type_says_here-returns-in-Plain : goal.type_says_here-returns-in-Plain
-type_says_here-returns-in-Plain t c =
+pub type_says_here-returns-else-not-may_test-2 : goal.type_says_here-returns-else-not-may_test-2
+type_says_here-returns-else-not-may_test-2 t c =
     let reply = M.test_reply c.args.place (view c.args.item.now) (passes (test_view c.in-Plain.test) (view c.args.item.now)) in
-    rw c.tested.ensures (type_on (language_of c.args.table.now) c.args.place (view c.args.item.now) c.args.means.now.left c.in-Some.left c.in-Some.left (Replied reply) c.type_behind-behind.ensures.passed (omega (arith, c.ranges.place.fits)) (rw c.in-Some-form.is at c.type_behind-behind.ensures.form ∙ ap type_view c.in-Plain.is) (omega (arith, c.in-Some.ensures, c.from.ensures)) (answered (language_of c.args.table.now) c.in-Some.left reply))
+    let said : Says (language_of c.args.table.now) (M.OfType c.args.node c.args.place (view c.args.item.now)) c.args.means.now.left c.in-Some.left (said_view c.tested-said.result) = rw c.tested-said.ensures (type_on (language_of c.args.table.now) c.args.place (view c.args.item.now) c.args.means.now.left c.in-Some.left c.in-Some.left (Replied reply) c.type_behind-behind.ensures.passed (omega (arith, c.ranges.place.fits)) (rw c.in-Some-form.is at c.type_behind-behind.ensures.form ∙ ap type_view c.in-Plain.is) (omega (arith, c.in-Some.ensures, c.from.ensures)) (answered (language_of c.args.table.now) c.in-Some.left reply)) in
+    c.counted_for-in-Plain.ensures (language_of c.args.table.now) (M.OfType c.args.node c.args.place (view c.args.item.now)) c.args.means.now.left c.in-Some.left said
 
 pub type_says_here-returns-in-Choice : goal.type_says_here-returns-in-Choice
 type_says_here-returns-in-Choice t c = type_on (language_of c.args.table.now) c.args.place (view c.args.item.now) c.args.means.now.left c.in-Some.left c.choice_says.new.means.left (said_view c.choice_says.result) c.type_behind-behind.ensures.passed (omega (arith, c.ranges.place.fits)) (rw c.in-Some-form.is at c.type_behind-behind.ensures.form ∙ ap type_view c.in-Choice.is) (omega (arith, c.in-Some.ensures, c.from.ensures)) (rw c.deref.ensures.value at c.choice_says.ensures)

@@ -3,7 +3,8 @@ use Rattle.std.specs.Vec.{with_item}
 use Rattle.cddl_meaning.specs.Judges.{Fails}
 use Rattle.cddl_meaning.specs.Moves as M
 use Rattle.cddl_match.specs.Machine.{asked_in, asks_in, found_in}
-use Rattle.match_moves.specs.Views.{reading_move, subject_view}
+use Rattle.match_moves.specs.Views.{reading_move}
+use Rattle.match_tests.specs.Views.{subject_view}
 use Rattle.match_moves.specs.declared.questions.Pending.TheVariants as P
 use Rattle.match_moves.specs.declared.questions.PendingType.TheVariants as T
 use Rattle.cddl_match.specs.declared.stack.Run.{Run}

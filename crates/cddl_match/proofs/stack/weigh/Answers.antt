@@ -2,7 +2,8 @@ use Rattle.std.proofs.Common.{◌≡◌, ◌<◌, refl, subst, arith}
 use Rattle.cddl_meaning.specs.Forms.{bits_asked}
 use Rattle.cddl_meaning.specs.Moves as M
 use Rattle.cddl_match.specs.Machine.{WaitsAt, found_in}
-use Rattle.match_moves.specs.Views.{reply_view, subject_view, weighing_move}
+use Rattle.match_moves.specs.Views.{reply_view, weighing_move}
+use Rattle.match_tests.specs.Views.{subject_view}
 use Rattle.table_nodes.specs.Nodes.{test_view}
 use Rattle.cddl_match.proofs.Running.{at_bits_over, at_unweighed, found_from, weigh_step}
 use Rattle.cddl_match.proofs.stack.weigh.Goals as goal

@@ -2,7 +2,7 @@ use Rattle.std.proofs.Common.{◌+◌, true, false, refl, sym, subst, arith}
 use Rattle.std.proofs.lemmas.List.{drop_more, drop_all}
 use Rattle.table_nodes.specs.Language.{language_of}
 use Rattle.cddl_match.specs.Ahead.{AreTold}
-use Rattle.match_moves.specs.Views.{subject_view}
+use Rattle.match_tests.specs.Views.{subject_view}
 use Rattle.cddl_match.proofs.Ways.{no_member, this_member, not_this_member, told_behind}
 use Rattle.cddl_match.proofs.telling.+telling.Goals as goal
 

@@ -1,6 +1,6 @@
 use Rattle.std.proofs.Common.{ℕ, ◌+◌, ◌*◌, ◌≤◌, Bool, drop}
 use Rattle.cddl_match.specs.Ahead.{AreTold}
-use Rattle.match_moves.specs.Views.{subject_view}
+use Rattle.match_tests.specs.Views.{subject_view}
 use Rattle.table_nodes.specs.Language.{language_of}
 use Rattle.cddl_match.proofs.telling.+telling.Given as goal
 

@@ -1,6 +1,7 @@
 use Rattle.std.proofs.Common.{sym, subst}
 use Rattle.item_nodes.specs.View.{pairs_view}
-use Rattle.match_moves.specs.Views.{question_view, subject_view}
+use Rattle.match_moves.specs.Views.{question_view}
+use Rattle.match_tests.specs.Views.{subject_view}
 use Rattle.table_nodes.specs.Language.{language_of}
 use Rattle.table_nodes.specs.Nodes.{entries_view}
 use Rattle.cddl_reasons.specs.Told.{IsCause}

@@ -1,5 +1,0 @@
-use Rattle.match_moves.proofs.OfBits.{number_count}
-use Rattle.match_moves.proofs.bits.left_of_number.Goals as goal
-
-pub returns : goal.returns
-returns c = rw (number_count c.args.number c.ranges.number.fits) c.left_of_word.ensures

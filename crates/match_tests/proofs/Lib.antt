@@ -1,0 +1,3 @@
+mod OfBits
+mod OfIndex
+mod OfKeys

@@ -1,0 +1,5 @@
+pub mod Views
+pub mod Bits
+pub mod Keys
+pub mod Index
+pub mod Places
