@@ -24,10 +24,10 @@ const PARTS: u64 = 262_144;
 const PARTS_OF_A_ROW: u64 = 8;
 
 /// How many parts of groups may be gone through for the alternatives of maps, beside those that the rows give room for.
-const STEPS: u64 = 1_048_576;
+const STEPS: u64 = 4_194_304;
 
 /// For how many of these each row of the terms gives room.
-const STEPS_OF_A_ROW: u64 = 32;
+const STEPS_OF_A_ROW: u64 = 64;
 
 /// Types and groups for a table, each with what it is of.
 #[derive(Drop)]
