@@ -20,10 +20,10 @@ pub text_leaf : (b : List ℕ) (at n start end : ℕ) → ((k : ℕ) → AreByte
 text_leaf b at n start end all h m s = record { value = text (take n (drop start b)); plain = refl; there = text_item 0 b at n start end (text (take n (drop start b))) all h m s }
 
 -- the simple value or the float of a head of major type 7
-abbrev last_value : (info n : ℕ) → Value
+abbrev pub last_value : (info n : ℕ) → Value
 last_value info n = if info == 25 then float W16 n else (if info == 26 then float W32 n else (if info == 27 then float W64 n else simple n))
 
-last_plain : (a c e : Bool) (n : ℕ) → has_parts (if a then float W16 n else (if c then float W32 n else (if e then float W64 n else simple n))) ≡ false
+pub last_plain : (a c e : Bool) (n : ℕ) → has_parts (if a then float W16 n else (if c then float W32 n else (if e then float W64 n else simple n))) ≡ false
 last_plain true c e n = refl
 last_plain false true e n = refl
 last_plain false false true n = refl

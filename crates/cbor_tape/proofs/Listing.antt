@@ -3,7 +3,7 @@ use Rattle.std.proofs.Common.{◌≡◌, ℕ, ◌+◌, ◌<◌, ◌≤◌, List,
 use Rattle.std.proofs.lemmas.List.{length-take-le, take_more_set}
 use Rattle.cbor_data.specs.Value.{Pairs, no_pairs, pair}
 use Rattle.cbor_tape.specs.declared.entry.Entry.{Entry}
-use Rattle.cbor_tape.specs.Keys.{mark, key_marks, AreListed, ArePairsOn, IsKeyOn}
+use Rattle.cbor_tape.specs.Keys.{mark, key_marks, AreListed, ArePairsOn, IsPairOn}
 use Rattle.cbor_tape.proofs.Rising.{listed_with}
 use Rattle.cbor_tape.proofs.Walks.{no_marks, some_left}
 
@@ -21,8 +21,8 @@ AreLeftOf b t first place last room count = (ps : Pairs) → ArePairsOn b t firs
 pub none_listed : (b : List ℕ) (t : List Entry) (first last : ℕ) (room : List Entry) → AreLeftOf b t first first last room 0
 none_listed b t first last room ps on = record { left = ps; on = on; marks = []; split = refl; listed = tt }
 
-pub one_listed : (b : List ℕ) (t : List Entry) (first place next last : ℕ) (room new : List Entry) (count : ℕ) (m : List ℕ) (e : Entry) → place < last → last ≤ length t → count < length room → IsKeyOn b t place last m e.head next → e.next ≡ count → new ≡ set room count e → AreLeftOf b t first place last room count → AreLeftOf b t first next last new (count + 1)
-one_listed b t first place next last room new count m e before within in_room key number put h ps on = by s.left s.on s.split
+pub one_listed : (b : List ℕ) (t : List Entry) (first place next last : ℕ) (room new : List Entry) (count : ℕ) (e : Entry) → place < last → last ≤ length t → count < length room → IsPairOn b t place last e.head next → e.next ≡ count → new ≡ set room count e → AreLeftOf b t first place last room count → AreLeftOf b t first next last new (count + 1)
+one_listed b t first place next last room new count e before within in_room key number put h ps on = by s.left s.on s.split
   where
     s : AreLeft b t place last room count ps
     s = h ps on
@@ -34,13 +34,12 @@ one_listed b t first place next last room new count m e before within in_room ke
     by no_pairs there split = absurd (some_left b t place last (drop place (take last t)) no_pairs refl (omega (arith, before, within, length-drop place (take last t), length-take last t)) there refl)
     by (pair k v qs) there split =
         let w = key k v qs there in
-        let own : mark k ≡ m = w.0 in
         record {
           left = qs;
-          on = w.2;
-          marks = s.marks ++ m ∷ [];
-          split = split ∙ (ap (λ n. s.marks ++ n ∷ key_marks qs) own ∙ sym (append_assoc s.marks (m ∷ []) (key_marks qs)));
-          listed = subst (AreListed b 0 (s.marks ++ m ∷ [])) (sym front) (listed_with b 0 s.marks (take count room) m e s.listed w.1 (omega (arith, number, length-take-le count room (omega (arith, in_room)))));
+          on = w.1;
+          marks = s.marks ++ mark k ∷ [];
+          split = split ∙ sym (append_assoc s.marks (mark k ∷ []) (key_marks qs));
+          listed = subst (AreListed b 0 (s.marks ++ mark k ∷ [])) (sym front) (listed_with b 0 s.marks (take count room) (mark k) e s.listed w.0 (omega (arith, number, length-take-le count room (omega (arith, in_room)))));
         }
 
 pub all_listed : (b : List ℕ) (t : List Entry) (first place last : ℕ) (room : List Entry) (count : ℕ) → last ≤ place → AreLeftOf b t first place last room count → (ps : Pairs) → ArePairsOn b t first last ps → AreListed b 0 (key_marks ps) (take count room)

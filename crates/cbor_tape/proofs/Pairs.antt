@@ -14,7 +14,7 @@ use Rattle.cbor_tape.specs.Tape.{AreEntriesOf}
 use Rattle.cbor_tape.specs.Keys.{mark, key_marks, AreOther, ArePairsOn, IsHighest, IsKnown, IsKnownWith}
 use Rattle.cbor_tape.specs.Parts.{AreMapPairsTapedAt, ArePairsTapedAt, IsTapedAt}
 use Rattle.cbor_tape.proofs.Entries.{entries-append, places_counted, pairs_places_counted}
-use Rattle.cbor_tape.proofs.Marks.{item_mark, same_mark}
+use Rattle.cbor_tape.proofs.Marks.{item_key, same_mark}
 
 places-with : (ps : PairForms) (k v : Form) → pairs_places (pair_meanings (with_pair_form ps k v)) ≡ pairs_places (pair_meanings ps) ++ (places (meaning k) ++ places (meaning v))
 places-with no_pair_forms k v = ap (λ xs. places (meaning k) ++ xs) (append-nil (places (meaning v)))
@@ -76,10 +76,11 @@ known_with d b t first last at end before V.Untold x ps k v on is there known w 
 known_with d b t first last at end V.Untold (V.Differ high) x ps k v on is there known w = absurd w
 known_with d b t first last at end (V.Differ before) (V.Differ None) x ps k v on is there known w = absurd w
 known_with d b t first last at end (V.Differ before) (V.Differ (Some above)) x ps k v on is there known w =
-    let own : mark (meaning k) ≡ w.own = ap mark is ∙ item_mark d b at end w.own x w.key there in
-    let other : AreOther w.own (key_marks (pair_meanings ps)) = w.new (pair_meanings ps) on known.1 in (
+    let own : mark (meaning k) ≡ mark x = ap mark is in
+    let one = w (mark x) (item_key d b at end x there) in
+    let other : AreOther (mark x) (key_marks (pair_meanings ps)) = one.new (pair_meanings ps) on known.1 in (
       apart-with [] ps k v known.0 (λ o. o) (subst (λ m. AreOther m (key_marks (pair_meanings ps))) (sym own) other),
-      subst (IsHighest b (Some above)) (ap (λ m. key_marks (pair_meanings ps) ++ m ∷ []) (sym own) ∙ sym (marks-with ps k v)) (w.highest (key_marks (pair_meanings ps)) known.1),
+      subst (IsHighest b (Some above)) (ap (λ m. key_marks (pair_meanings ps) ++ m ∷ []) (sym own) ∙ sym (marks-with ps k v)) (one.highest (key_marks (pair_meanings ps)) known.1),
     )
 
 pub one_pair_more : (d : ℕ) (b : List ℕ) (start place end between after next beside beyond read : ℕ) (old mid turn new : List Entry) (before keys : Keys) → place ≤ length old → ArePairsRead d b start place old mid end next read before → IsKnownWith b mid place next before end keys →

@@ -1,14 +1,14 @@
 -- Keys that are put in order.
-use Rattle.std.proofs.Common.{◌≡◌, ℕ, zero, suc, ◌+◌, ◌<◌, inl, inr, List, [], ◌∷◌, ◌++◌, length, Option, Some, None, slice_get, refl, sym, ap, ◌∙◌, subst, arith}
+use Rattle.std.proofs.Common.{Contains, ◌≡◌, ℕ, zero, suc, ◌+◌, ◌<◌, inl, inr, List, [], ◌∷◌, ◌++◌, length, Option, Some, None, slice_get, refl, sym, ap, ◌∙◌, subst, arith}
 use Rattle.std.specs.List.{AllByRecursion}
 use Rattle.std.specs.List.Sorted.{IsPermutation}
-use Rattle.std.proofs.lemmas.List.Sorted.{Contains-permutation}
+use Rattle.std.proofs.lemmas.List.Sorted.{Contains-permutation, IsPermutation-sym}
 use Rattle.lists.proofs.Lemmas.{contains_at, ordered, place_of, same_some}
 use Rattle.cbor_data.specs.Value.{Value, Pairs, no_pairs, pair}
 use Rattle.cbor_data.specs.Validity.{IsOneOf}
 use Rattle.item_nodes.specs.Apart.{AreKeysApart}
 use Rattle.cbor_tape.specs.declared.entry.Entry.{Entry}
-use Rattle.cbor_tape.specs.Keys.{mark, key_marks, AreApart, AreInOrder, AreKeys, AreListed, AreOther, IsAbove, IsHighest, IsKeyAt}
+use Rattle.cbor_tape.specs.Keys.{mark, key_marks, AreApart, AreKeys, AreListed, AreOther, IsAbove, IsHighest, IsKeyAt}
 use Rattle.cbor_tape.proofs.Marks.{one_mark, same_mark}
 
 -- marks by their numbers
@@ -63,11 +63,29 @@ mark_there b [] (d ∷ es) j e h f = absurd h
 mark_there b (x ∷ ms) (d ∷ es) zero e h f = (x, refl, subst (λ (z : Entry). IsKeyAt b z.head x) (same_some f) h.0)
 mark_there b (x ∷ ms) (d ∷ es) (suc j) e h f = mark_there b ms es j e h.1 f
 
-pub keys_with : (b : List ℕ) (ms : List (List ℕ)) (es : List Entry) (m : List ℕ) (e : Entry) → AreKeys b ms es → IsKeyAt b e.head m → AreKeys b (ms ++ m ∷ []) (es ++ e ∷ [])
-keys_with b [] [] m e h k = (k, tt)
-keys_with b [] (d ∷ es) m e h k = absurd h
-keys_with b (x ∷ ms) [] m e h k = absurd h
-keys_with b (x ∷ ms) (d ∷ es) m e h k = (h.0, keys_with b ms es m e h.1 k)
+-- the last key, and those before it
+keys_split : (b : List ℕ) (ms : List (List ℕ)) (es : List Entry) (e : Entry) → AreKeys b ms (es ++ e ∷ []) → (ns : List (List ℕ)) × (m : List ℕ) × (ms ≡ ns ++ m ∷ []) × AreKeys b ns es × IsKeyAt b e.head m
+keys_split b [] [] e h = absurd h
+keys_split b [] (d ∷ es) e h = absurd h
+keys_split b (m ∷ []) [] e h = ([], m, refl, tt, h.0)
+keys_split b (m ∷ n ∷ ms) [] e h = absurd h.1
+keys_split b (m ∷ ms) (d ∷ es) e h =
+    let r = keys_split b ms es e h.1 in
+    (m ∷ r.0, r.1, ap (λ ns. m ∷ ns) r.2, (h.0, r.3), r.4)
+
+-- each entry of some that were listed is a key
+listed_key : (b : List ℕ) (i : ℕ) (ms : List (List ℕ)) (es : List Entry) (j : ℕ) (e : Entry) → AreListed b i ms es → slice_get es j ≡ Some e → (m : List ℕ) × IsKeyAt b e.head m
+listed_key b i ms [] j e h f = cc
+listed_key b i [] (d ∷ es) j e h f = absurd h
+listed_key b i (x ∷ ms) (d ∷ es) zero e h f = (x, subst (λ (z : Entry). IsKeyAt b z.head x) (same_some f) h.0)
+listed_key b i (x ∷ ms) (d ∷ es) (suc j) e h f = listed_key b (suc i) ms es j e h.2 f
+
+keys_from : (b : List ℕ) (es : List Entry) → ((e : Entry) → Contains es e → (m : List ℕ) × IsKeyAt b e.head m) → (ms : List (List ℕ)) × AreKeys b ms es
+keys_from b [] h = ([], tt)
+keys_from b (e ∷ es) h =
+    let own = h e (contains_at (e ∷ es) 0 e refl) in
+    let rest = keys_from b es (λ d in_es. let p = place_of es d in_es in h d (contains_at (e ∷ es) (suc p.0) d p.1)) in
+    (own.0 ∷ rest.0, (own.1, rest.1))
 
 pub listed_with : (b : List ℕ) (i : ℕ) (ms : List (List ℕ)) (es : List Entry) (m : List ℕ) (e : Entry) → AreListed b i ms es → IsKeyAt b e.head m → e.next ≡ i + length es → AreListed b i (ms ++ m ∷ []) (es ++ e ∷ [])
 listed_with b i [] [] m e h k n = (k, omega (arith, n), tt)
@@ -76,24 +94,35 @@ listed_with b i (x ∷ ms) [] m e h k n = absurd h
 listed_with b i (x ∷ ms) (d ∷ es) m e h k n = (h.0, h.1, listed_with b (suc i) ms es m e h.2 k (omega (arith, n)))
 
 -- What is apart when it is in order is apart as it was listed: two keys of one mark would be one entry, and so have one number.
-pub apart_listed : (b : List ℕ) (ms : List (List ℕ)) (es sorted : List Entry) → AreListed b 0 ms es → IsPermutation es sorted → AreInOrder b sorted → AreApart ms
+pub apart_listed : (b : List ℕ) (ms : List (List ℕ)) (es sorted : List Entry) → AreListed b 0 ms es → IsPermutation es sorted → ((ns : List (List ℕ)) → AreKeys b ns sorted → AreApart ns) → AreApart ms
 apart_listed b ms es sorted listed same order = apart_by ms never
   where
+    found : (ns : List (List ℕ)) × AreKeys b ns sorted
+    found = keys_from b sorted (λ e in_sorted.
+        let p = place_of es e (Contains-permutation sorted es e (IsPermutation-sym es sorted same) in_sorted) in
+        listed_key b 0 ms es p.0 e listed p.1)
+
+    marks : List (List ℕ)
+    marks = found.0
+
+    apart : AreApart marks
+    apart = order marks found.1
+
     never : (i j : ℕ) (m : List ℕ) → i < j → slice_get ms i ≡ Some m → slice_get ms j ≡ Some m → ⊥
     never i j m l e f =
         let a = listed_at b 0 ms es i m listed e in
         let c = listed_at b 0 ms es j m listed f in
         let p = place_of sorted a.entry (Contains-permutation es sorted a.entry same (contains_at es i a.entry a.there)) in
         let q = place_of sorted c.entry (Contains-permutation es sorted c.entry same (contains_at es j c.entry c.there)) in
-        let u = mark_there b order.marks sorted p.0 a.entry order.keys p.1 in
-        let w = mark_there b order.marks sorted q.0 c.entry order.keys q.1 in
-        let first : slice_get order.marks p.0 ≡ Some m = u.1 ∙ ap Some (one_mark b a.entry.head u.0 m u.2 a.key) in
-        let second : slice_get order.marks q.0 ≡ Some m = w.1 ∙ ap Some (one_mark b c.entry.head w.0 m w.2 c.key) in
+        let u = mark_there b marks sorted p.0 a.entry found.1 p.1 in
+        let w = mark_there b marks sorted q.0 c.entry found.1 q.1 in
+        let first : slice_get marks p.0 ≡ Some m = u.1 ∙ ap Some (one_mark b a.entry.head u.0 m u.2 a.key) in
+        let second : slice_get marks q.0 ≡ Some m = w.1 ∙ ap Some (one_mark b c.entry.head w.0 m w.2 c.key) in
         elim (ordered p.0 q.0) [
           | inl at ↦
               let one : a.entry ≡ c.entry = same_some (sym p.1 ∙ (ap (slice_get sorted) at ∙ q.1)) in
               omega (arith, l, a.number, c.number, ap (λ (z : Entry). z.next) one)
-          | inr far ↦ elim far [ inl below ↦ apart_at order.marks p.0 q.0 m order.apart below first second | inr above ↦ apart_at order.marks q.0 p.0 m order.apart above second first ]
+          | inr far ↦ elim far [ inl below ↦ apart_at marks p.0 q.0 m apart below first second | inr above ↦ apart_at marks q.0 p.0 m apart above second first ]
         ]
 
 -- keys with other marks are other keys
@@ -117,20 +146,19 @@ keys_apart_from earlier (pair k v ps) n a = (n.0 k refl, keys_apart_from (k ∷ 
 pub keys_apart : (ps : Pairs) → AreApart (key_marks ps) → AreKeysApart [] ps
 keys_apart ps a = keys_apart_from [] ps (none_new (key_marks ps)) a
 
--- the first keys are in order, with the highest at this offset
-pub record AreRisen (b : List ℕ) (es : List Entry) (top : Option ℕ) : Type 0 where
-  pub order : AreInOrder b es
-  pub high : IsHighest b top order.marks
+-- the first keys are apart, with the highest at this offset
+abbrev pub AreRisen : List ℕ → List Entry → Option ℕ → Type 0
+AreRisen b es top = (ms : List (List ℕ)) → AreKeys b ms es → AreApart ms × IsHighest b top ms
 
 pub none_risen : (b : List ℕ) → AreRisen b [] None
-none_risen b = record { order = record { marks = []; keys = tt; apart = tt }; high = refl }
+none_risen b [] keys = (tt, refl)
+none_risen b (m ∷ ms) keys = absurd keys
 
-pub one_risen : (b : List ℕ) (es : List Entry) (top : Option ℕ) (e : Entry) → AreRisen b es top → IsAbove b top e.head → AreRisen b (es ++ e ∷ []) (Some e.head)
-one_risen b es top e h a = record {
-  order = record {
-    marks = h.order.marks ++ a.own ∷ [];
-    keys = keys_with b h.order.marks es a.own e h.order.keys a.key;
-    apart = apart_with h.order.marks a.own h.order.apart (a.other h.order.marks h.high);
-  };
-  high = a.highest h.order.marks h.high;
-}
+pub one_risen : (b : List ℕ) (es : List Entry) (top : Option ℕ) (e : Entry) → AreRisen b es top → ((m : List ℕ) → IsKeyAt b e.head m → IsAbove b top e.head m) → AreRisen b (es ++ e ∷ []) (Some e.head)
+one_risen b es top e h above ms keys =
+    let s = keys_split b ms es e keys in
+    let w = h s.0 s.3 in
+    let a = above s.1 s.4 in (
+      subst AreApart (sym s.2) (apart_with s.0 s.1 w.0 (a.other s.0 w.1)),
+      subst (IsHighest b (Some e.head)) (sym s.2) (a.highest s.0 w.1),
+    )

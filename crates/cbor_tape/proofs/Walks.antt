@@ -7,9 +7,9 @@ use Rattle.std.specs.declared.cmp.Ordering.TheVariants.{Equal}
 use Rattle.cbor_data.specs.Value.{Value, Pairs, no_pairs, pair, places, pairs_places}
 use Rattle.cbor_tape.specs.declared.entry.Entry.{Entry}
 use Rattle.cbor_tape.specs.Tape.{IsEntryOf, AreEntriesOf}
-use Rattle.cbor_tape.specs.Keys.{mark, key_marks, AreOther, ArePairsOn, IsKeyAt, IsKeyOn, IsNext}
+use Rattle.cbor_tape.specs.Keys.{mark, key_marks, AreOther, ArePairsOn, IsKeyAt, IsNext, IsPairOn}
 use Rattle.cbor_tape.proofs.Entries.{first_place, places_counted}
-use Rattle.cbor_tape.proofs.Marks.{differing, spelled_mark}
+use Rattle.cbor_tape.proofs.Marks.{differing, one_mark, spelled_key}
 
 -- the entries behind those of some items
 entries-drop : (b : List ℕ) (p : ℕ) (xs ys : List Value) (es : List Entry) → AreEntriesOf b p (xs ++ ys) es → AreEntriesOf b (p + length xs) ys (drop (length xs) es)
@@ -44,19 +44,18 @@ item_on b t place last x others d before h =
     }
 
 -- the key of a pair, and the place after it
-pub key_there : (b : List ℕ) (t : List Entry) (place last : ℕ) (m : List ℕ) (d : Entry) → place < last → (get_or t place d).next < last → IsKeyAt b (get_or t place d).head m → IsKeyOn b t place last m (get_or t place d).head (get_or t (get_or t place d).next d).next
-key_there b t place last m d before inside k key v ps h =
+pub pair_there : (b : List ℕ) (t : List Entry) (place last : ℕ) (d : Entry) → place < last → (get_or t place d).next < last → IsPairOn b t place last (get_or t place d).head (get_or t (get_or t place d).next d).next
+pair_there b t place last d before inside key v ps h =
     let e = get_or t place d in
     let key_on = item_on b t place last key (places v ++ pairs_places ps) d before h in
     let value_on = item_on b t e.next last v (pairs_places ps) d inside key_on.there in
-    let marked : mark key ≡ m = spelled_mark b e.head m key key_on.here.spelling key_on.here.after k key_on.here.spells key_on.here.is in
-    (marked, k, value_on.there)
+    (spelled_key b e.head key key_on.here.spelling key_on.here.after key_on.here.spells key_on.here.is, value_on.there)
 
 -- a pair whose key has another mark, and the place after it
-pub next_pair : (b : List ℕ) (t : List Entry) (place last : ℕ) (m n : List ℕ) (head next : ℕ) → IsKeyOn b t place last n head next → (slice_cmp nat_cmp m n ≡ Equal → ⊥) → IsNext b t place last m next
-next_pair b t place last m n head next on apart key v ps h =
+pub next_pair : (b : List ℕ) (t : List Entry) (place last : ℕ) (m n : List ℕ) (head next : ℕ) → IsPairOn b t place last head next → IsKeyAt b head n → (slice_cmp nat_cmp m n ≡ Equal → ⊥) → IsNext b t place last m next
+next_pair b t place last m n head next on there apart key v ps h =
     let w = on key v ps h in
-    (λ same. differing m n apart (sym w.0 ∙ same), w.2)
+    (λ same. differing m n apart (one_mark b head n (mark key) there w.0 ∙ same), w.1)
 
 -- if what is left has other marks, all have
 abbrev pub AreOtherIf : List ℕ → List Entry → ℕ → ℕ → ℕ → List ℕ → Type 0

@@ -1,3 +1,5 @@
 pub mod Tape
 pub mod Parts
 pub mod Keys
+pub mod Contents
+pub mod Parted

@@ -7,6 +7,8 @@ mod item;
 mod keys;
 mod leaf;
 mod order;
+mod parts;
+mod strings;
 
 pub use crate::entry::Entry;
 pub use crate::item::whole_tape;

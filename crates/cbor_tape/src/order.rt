@@ -3,10 +3,11 @@ ghost use Rattle.std.specs.Prelude.{◌≡◌, ◌≤◌, ℕ, [], length, take,
 ghost use Rattle.std.specs.List.Sorted.{IsPermutation};
 ghost use Rattle.cbor_data.specs.Value.{Pairs};
 ghost use Rattle.item_nodes.specs.Apart.{AreKeysApart};
-ghost use Rattle.cbor_tape.specs.Keys.{key_marks, AreApart, ArePairsOn, AreListed, IsAbove, IsKnown, AreInOrder};
+ghost use Rattle.cbor_tape.specs.Keys.{key_marks, AreApart, AreKeys, ArePairsOn, AreListed, IsAbove, IsKeyAt, IsKnown};
 
 use crate::entry::Entry;
-use crate::keys::{Keys, compare, key_at, key_on};
+use crate::keys::{Keys, pair_on};
+use crate::parts::order;
 use std::cmp::Ordering;
 
 /// Whether the keys of a map all differ, of which this is known. Their pairs are on the tape from the place `first` up to the place
@@ -32,38 +33,31 @@ fn are_apart(bytes: &[u8], tape: &mut [Entry], first: usize, last: usize) -> boo
     ensures apart { IsTrue result → (ps : Pairs) → ArePairsOn bytes.now tape.old first last ps → AreApart (key_marks ps) }
 {
     let (front, room) = tape.split_at_mut(bytes.len());
-    match list(bytes, front, first, last, room) {
+    match list(front, first, last, room) {
         Some(count) => differ(bytes, room.split_at_mut(count).0),
         None => false,
     }
 }
 
-// Puts the keys of these pairs into the room, each with its number: how many there are. None where one is no integer and no string
-// in one part, or the room is too short.
-fn list(
-    bytes: &[u8],
-    tape: &[Entry],
-    first: usize,
-    last: usize,
-    room: &mut [Entry],
-) -> Option<usize>
+// Puts the keys of these pairs into the room, each with its number: how many there are. None where the room is too short.
+fn list(tape: &[Entry], first: usize, last: usize, room: &mut [Entry]) -> Option<usize>
     requires { last ≤ length tape.now }
     ensures within { IfSome result (λ count. count ≤ length room.new) }
-    ensures listed { IfSome result (λ count. (ps : Pairs) → ArePairsOn bytes.now tape.now first last ps → AreListed bytes.now 0 (key_marks ps) (take count room.new)) }
+    ensures listed { IfSome result (λ count. (bytes : List ℕ) (ps : Pairs) → ArePairsOn bytes tape.now first last ps → AreListed bytes 0 (key_marks ps) (take count room.new)) }
 {
     let mut place = first;
     let mut count = 0;
     while place < last {
-        let key = key_on(bytes, tape, place, last)?;
-        if count >= room.len() || count > u32::MAX as usize || key.next <= place {
+        let pair = pair_on(tape, place, last)?;
+        if count >= room.len() || count > u32::MAX as usize || pair.next <= place {
             return None;
         }
         room[count] = Entry {
-            head: key.head,
+            head: pair.head,
             next: count as u32,
         };
         count += 1;
-        place = key.next;
+        place = pair.next;
     }
     Some(count)
 }
@@ -79,23 +73,12 @@ fn differ(bytes: &[u8], keys: &mut [Entry]) -> bool
 fn sort(bytes: &[u8], keys: &mut [Entry])
     ensures { IsPermutation keys.old keys.new }
 {
-    keys.sort_unstable_by(|key, other| order(bytes, *key, *other));
+    keys.sort_unstable_by(|key, other| order(bytes, key.head as usize, other.head as usize));
 }
 
-// The order of two keys.
-fn order(bytes: &[u8], key: Entry, other: Entry) -> Ordering {
-    match (
-        key_at(bytes, key.head as usize),
-        key_at(bytes, other.head as usize),
-    ) {
-        (Some(key), Some(other)) => compare(&key, &other),
-        _ => Ordering::Equal,
-    }
-}
-
-// Whether each of these keys is above the one before it.
+// Whether each of these keys is surely above the one before it.
 fn rise(bytes: &[u8], keys: &[Entry]) -> bool
-    ensures { IsTrue result → AreInOrder bytes.now keys.now }
+    ensures { IsTrue result → (ms : List (List ℕ)) → AreKeys bytes.now ms keys.now → AreApart ms }
 {
     let mut top = None;
     for key in keys {
@@ -110,16 +93,10 @@ fn rise(bytes: &[u8], keys: &[Entry]) -> bool
 
 // Whether the key at `at` is surely above the highest of some, which is at `top`, if there are some.
 fn is_above(bytes: &[u8], top: Option<usize>, at: usize) -> bool
-    ensures { IsTrue result → IsAbove bytes.now top at }
+    ensures { IsTrue result → (own : List ℕ) → IsKeyAt bytes.now at own → IsAbove bytes.now top at own }
 {
-    let Some(key) = key_at(bytes, at) else {
-        return false;
-    };
-    let Some(top) = top else {
-        return true;
-    };
-    let Some(highest) = key_at(bytes, top) else {
-        return false;
-    };
-    matches!(compare(&highest, &key), Ordering::Less)
+    match top {
+        Some(top) => matches!(order(bytes, top, at), Ordering::Less),
+        None => true,
+    }
 }

@@ -108,6 +108,66 @@ fn keys_that_differ(rt: HostRuntime) {
 }
 
 #[test]
+fn keys_of_every_kind(rt: HostRuntime) {
+    // a key alone, in order, and lower than the one before it
+    assert!(rt; !is_left(b"\xa1\xf9\x3e\x00\x00", 1));
+    assert!(rt; !is_left(b"\xa2\x61a\x00\xf4\x00", 1));
+    assert!(rt; !is_left(b"\xa2\xf6\x00\x01\x00", 1));
+    assert!(rt; !is_left(b"\xa2\xf8\xff\x00\xf8\x20\x00", 1));
+    // one number in floats of each width, whose bits or widths differ
+    assert!(rt;
+        !is_left(
+            b"\xa3\xf9\x3c\x00\x00\xfa\x3f\x80\x00\x00\x00\xfb\x3f\xf0\0\0\0\0\0\0\x00",
+            1
+        )
+    );
+    assert!(rt; !is_left(b"\xa2\xf9\x00\x00\x00\xf9\x80\x00\x00", 1));
+    // strings in chunks, of one length, cut at other places
+    assert!(rt; !is_left(b"\xa2\x7f\x61a\x62bc\xff\x00\x7f\x62ab\x61d\xff\x00", 1));
+    assert!(rt; !is_left(b"\xa2\x63abd\x00\x7f\x60\x62ab\x60\x61c\x60\xff\x00", 1));
+    assert!(rt; !is_left(b"\xa2\x5f\x41a\xff\x00\x7f\x61a\xff\x00", 1));
+    assert!(rt; !is_left(b"\xa2\x5f\xff\x00\x5f\x41a\xff\x00", 1));
+    // one container among others, and several of other kinds
+    assert!(rt; !is_left(b"\xa3\x80\x00\x01\x00\x61a\x00", 2));
+    assert!(rt; !is_left(b"\xa3\xa0\x00\x80\x00\xc1\x00\x00", 2));
+    assert!(rt; !is_left(b"\xa2\x9f\x01\xff\x00\xbf\xff\x00", 2));
+    // arrays, maps and tags that differ in their first numbers, or in what they hold
+    assert!(rt; !is_left(b"\xa2\x82\x01\x02\x00\x82\x01\x03\x00", 2));
+    assert!(rt; !is_left(b"\xa2\x82\x61a\x81\x01\x00\x98\x02\x61a\x81\x18\x20\x00", 3));
+    assert!(rt; !is_left(b"\xa2\x81\x82\xa0\x01\x00\x81\x82\x80\x01\x00", 4));
+    assert!(rt; !is_left(b"\xa2\xa1\x01\x02\x00\xa2\x01\x02\x03\x04\x00", 2));
+    assert!(rt; !is_left(b"\xa2\xc1\x01\x00\xc1\x02\x00", 2));
+    assert!(rt; !is_left(b"\xa2\xd8\x20\x61a\x00\xc1\x61a\x00", 2));
+}
+
+#[test]
+fn keys_that_are_the_same(rt: HostRuntime) {
+    assert!(rt; is_left(b"\xa2\xf9\x3c\x00\x00\xf9\x3c\x00\x00", 1));
+    assert!(rt; is_left(b"\xa2\xfa\x3f\x80\x00\x00\x00\xfa\x3f\x80\x00\x00\x00", 1));
+    assert!(rt; is_left(b"\xa3\xf4\x00\x01\x00\xf4\x00", 1));
+    assert!(rt; is_left(b"\xa2\x7f\x61a\x62bc\xff\x00\x63abc\x00", 1));
+    assert!(rt; is_left(b"\xa2\x5f\x41a\x42bc\xff\x00\x5f\x40\x42ab\x41c\xff\x00", 1));
+    assert!(rt; is_left(b"\xa2\x5f\xff\x00\x40\x00", 1));
+    assert!(rt; is_left(b"\xa2\x82\x01\x61a\x00\x98\x02\x18\x01\x7f\x61a\xff\x00", 2));
+    assert!(rt; is_left(b"\xa3\xc1\x80\x00\x01\x00\xd8\x01\x80\x00", 3));
+    assert!(rt; is_left(b"\xa2\xa2\x01\x00\x02\x00\x00\xa2\x02\x00\x01\x00\x00", 2));
+}
+
+// Keys that differ, of which this is not told.
+#[test]
+fn keys_not_told_apart(rt: HostRuntime) {
+    assert!(rt; is_left(b"\xa2\xa1\x01\x00\x00\xa1\x02\x00\x00", 2));
+    assert!(rt; is_left(b"\xa2\x82\xa0\x01\x00\x82\xa0\x02\x00", 3));
+    assert!(rt; is_left(b"\xa2\x9f\x01\xff\x00\x81\x02\x00", 2));
+    assert!(rt;
+        is_left(
+            b"\xa2\x5f\x40\x40\x40\x40\x40\x40\x40\x40\x40\x40\x40\x40\x40\x40\x40\x40\xff\x00\x41a\x00",
+            1
+        )
+    );
+}
+
+#[test]
 fn what_is_left(rt: HostRuntime) {
     // keys that are the same, in other widths too
     assert!(rt; is_left(b"\xa2\x01\x00\x01\x00", 1));
