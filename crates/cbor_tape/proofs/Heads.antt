@@ -88,16 +88,16 @@ tag_part b at n start f after h head m = by f h ((form_byte b at f after h).majo
 broken : (b : List ℕ) (at x : ℕ) (inner after : List ℕ) → drop at b ≡ (x ∷ (inner ++ 255 ∷ [])) ++ after → drop (at + 1) b ≡ inner ++ 255 ∷ after
 broken b at x inner after is = sym (drop-drop 1 at b) ∙ (ap (drop 1) is ∙ append_assoc inner (255 ∷ []) after)
 
-pub byte_chunks : (b : List ℕ) (at : ℕ) (f : Form) (after : List ℕ) → IsFormAt b at f after → get_or b at 0 ≡ 95 → (cs : List Chunk) × (meaning f ≡ bytes (joined cs)) × AreChunksFrom b (at + 1) cs after
-byte_chunks b at f after h is = by f h (omega (arith, (form_byte b at f after h).major)) (omega (arith, (form_byte b at f after h).info))
+pub chunks_of_bytes : (b : List ℕ) (at : ℕ) (f : Form) (after : List ℕ) → IsFormAt b at f after → get_or b at 0 ≡ 95 → (cs : List Chunk) × (meaning f ≡ bytes (joined cs)) × AreChunksFrom b (at + 1) cs after
+chunks_of_bytes b at f after h is = by f h (omega (arith, (form_byte b at f after h).major)) (omega (arith, (form_byte b at f after h).info))
   where
     by : (f : Form) → IsFormAt b at f after → form_major f ≡ 2 → form_info f ≡ 31 → (cs : List Chunk) × (meaning f ≡ bytes (joined cs)) × AreChunksFrom b (at + 1) cs after
     by (bytes_chunks cs) h e i = (cs, refl, record { major = 2; string = omega arith; ok = h.ok; is = broken b at 95 (chunks_bytes 2 cs) after h.is })
     by (bytes_form p s) h e i = absurd (omega (arith, i, info_below p (length s) h.ok.0))
     by _ h e i = absurd (omega arith)
 
-pub text_parts : (b : List ℕ) (at : ℕ) (f : Form) (after : List ℕ) → IsFormAt b at f after → get_or b at 0 ≡ 127 → (cs : List Chunk) × (meaning f ≡ text (joined cs)) × AreChunksFrom b (at + 1) cs after
-text_parts b at f after h is = by f h (omega (arith, (form_byte b at f after h).major)) (omega (arith, (form_byte b at f after h).info))
+pub chunks_of_text : (b : List ℕ) (at : ℕ) (f : Form) (after : List ℕ) → IsFormAt b at f after → get_or b at 0 ≡ 127 → (cs : List Chunk) × (meaning f ≡ text (joined cs)) × AreChunksFrom b (at + 1) cs after
+chunks_of_text b at f after h is = by f h (omega (arith, (form_byte b at f after h).major)) (omega (arith, (form_byte b at f after h).info))
   where
     by : (f : Form) → IsFormAt b at f after → form_major f ≡ 3 → form_info f ≡ 31 → (cs : List Chunk) × (meaning f ≡ text (joined cs)) × AreChunksFrom b (at + 1) cs after
     by (text_chunks cs) h e i = (cs, refl, record { major = 3; string = omega arith; ok = h.ok; is = broken b at 127 (chunks_bytes 3 cs) after h.is })

@@ -20,7 +20,7 @@ use Rattle.cbor_tape.specs.Parted.{inside_of, part_content, part_mark, ArePartsF
 use Rattle.cbor_tape.proofs.Contents.{decided, same_front, told_equal, told_from, told_order}
 use Rattle.cbor_tape.proofs.Marks.{by_heads, by_strings}
 use Rattle.cbor_tape.proofs.Forms.{form_byte}
-use Rattle.cbor_tape.proofs.Heads.{array_parts, byte_chunks, map_pairs, tag_part, text_parts, values_counted}
+use Rattle.cbor_tape.proofs.Heads.{array_parts, chunks_of_bytes, chunks_of_text, map_pairs, tag_part, values_counted}
 
 -- forms, and others after them
 
@@ -320,10 +320,10 @@ chunked b at m p string none marked kind empty from sized f after r =
     }
 
 byte_chunks_part : (b : List ℕ) (at : ℕ) (p : Part) → get_or b at 0 ≡ 95 → p.key.kind ≡ get_or b at 0 / 32 → p.key.string.now ≡ [] → p.chunks ≡ Some (at + 1) → AreSizedAt b (at + 1) p.key.argument p.end → IsPartAt b at p
-byte_chunks_part b at p is kind empty from sized f after h = chunked b at 2 p bytes refl (λ s. refl) (omega (arith, kind, is)) empty from sized f after (byte_chunks b at f after h is)
+byte_chunks_part b at p is kind empty from sized f after h = chunked b at 2 p bytes refl (λ s. refl) (omega (arith, kind, is)) empty from sized f after (chunks_of_bytes b at f after h is)
 
 text_chunks_part : (b : List ℕ) (at : ℕ) (p : Part) → get_or b at 0 ≡ 127 → p.key.kind ≡ get_or b at 0 / 32 → p.key.string.now ≡ [] → p.chunks ≡ Some (at + 1) → AreSizedAt b (at + 1) p.key.argument p.end → IsPartAt b at p
-text_chunks_part b at p is kind empty from sized f after h = chunked b at 3 p text refl (λ s. refl) (omega (arith, kind, is)) empty from sized f after (text_parts b at f after h is)
+text_chunks_part b at p is kind empty from sized f after h = chunked b at 3 p text refl (λ s. refl) (omega (arith, kind, is)) empty from sized f after (chunks_of_text b at f after h is)
 
 pub chunks_part : (b : List ℕ) (at : ℕ) (p : Part) → (get_or b at 0 ≡ 95) ⊎ (get_or b at 0 ≡ 127) → p.key.kind ≡ get_or b at 0 / 32 → p.key.string.now ≡ [] → p.chunks ≡ Some (at + 1) → AreSizedAt b (at + 1) p.key.argument p.end → IsPartAt b at p
 chunks_part b at p either kind empty from sized = elim either [ inl is ↦ byte_chunks_part b at p is kind empty from sized | inr is ↦ text_chunks_part b at p is kind empty from sized ]

@@ -30,13 +30,22 @@ struct Extent {
 /// tape says nothing; how many entries it has is the `next` of the first one.
 ///
 /// `None` says nothing of the bytes, and then the tape says nothing: no item may be there, or none that is all there, or one
-/// with a text that is not UTF-8, with a repeated key, too deep, or more than 128 containers deep; or a map has a key that is no
-/// integer and no string in one part, or more keys than `tape` is longer than `bytes`, more than eight, of which after these eight
-/// one is not above all before it, in the order of deterministic bytes (RFC 8949 section 4.2.1). So where the tape is half as long
-/// again as the bytes, each map of integers and strings is reported.
+/// with a text that is not UTF-8, with a repeated key, too deep, or more than 128 containers deep; or a map has two keys that are
+/// not told apart, or keys for which there is no room.
+///
+/// Keys are compared part by part, with the members of arrays and the contents of tags, up to the first part that differs. It is
+/// not told whether two differ where, up to there, both have a map with as many pairs, since these may come in any order (RFC 8949
+/// section 5.6.1); or both have an array, both a map or both a string of one major type, and that of one key is an array or a map
+/// up to a break, or in 16 chunks or more.
+///
+/// The keys of a map take room where one is a container or a string in chunks, if it is not alone; and where they are more than
+/// eight, of which after these eight one is not above all before it, in the order of deterministic bytes (RFC 8949 section 4.2.1).
+/// Then there has to be an entry for each key after as many as there are bytes. So where the tape is half as long again as the
+/// bytes, each map has room.
 ///
 /// No memory is asked for. Calls are as deep as the item. A byte is looked at once, and a key's also where it is compared: with
-/// the highest key before it, with eight others at most, and where that does not tell, once the map is read, as a sort does.
+/// the highest key before it, with eight others at most, and where that does not tell, once the map is read, as a sort does. What is in
+/// a map is not looked at when that map is a key, or is in one, and is compared.
 pub fn whole_tape(bytes: &[u8], depth: u32, tape: &mut [Entry]) -> Option<usize>
     requires room { length bytes.now ≤ length tape.old }
     requires short { length bytes.now < 2 ^ 32 }

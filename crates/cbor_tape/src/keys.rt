@@ -56,6 +56,7 @@ pub enum Keys {
 }
 
 /// The key at `at`, if it is plain and its bytes are all there.
+#[inline(always)]
 pub fn key_at(bytes: &[u8], at: usize) -> Option<Key<'_>>
     ensures { IfSome result (λ key. IsKeyAt bytes.now at (mark_of key)) }
 {
@@ -110,7 +111,8 @@ pub fn plain<'a>(kind: u8, argument: u64) -> Key<'a>
 }
 
 // The kind of a simple value or a float, from its initial byte and its argument. `None` for a simple value that has to be written
-// without an argument of its own, and for other items.
+// without an argument of its own, and for other items. It is no part of what integers and strings go through.
+#[inline(never)]
 fn last_kind(initial: u8, argument: u64) -> Option<u8>
     ensures { IfSome result (λ kind. IsLastKind initial argument kind) }
 {

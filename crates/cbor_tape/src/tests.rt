@@ -76,6 +76,10 @@ fn containers(rt: HostRuntime) {
     assert!(rt; is_taped(b"\xbf\xff", 1, 2, &[(0, 1)]));
     assert!(rt; is_taped(b"\xa2\x61a\x01\x61b\x82\x02\x03", 2, 9, &MAP));
     assert!(rt; is_taped(b"\xbf\x61a\x01\x61b\x9f\x02\x03\xff\xff", 2, 11, &MAP));
+    assert!(rt; !is_left(b"\xa2\x01\x02\x03\x04", 1));
+    assert!(rt; !is_left(b"\xa5\x61a\x61A\x61b\x61B\x61c\x61C\x61d\x61D\x61e\x61E", 1));
+    assert!(rt; !is_left(b"\x82\x61a\xa1\x61b\x61c", 2));
+    assert!(rt; !is_left(b"\xbf\x63Fun\xf5\x63Amt\x21\xff", 1));
     assert!(rt; is_taped(b"\xc1\x1a\x51\x4b\x67\xb0", 1, 6, &[(0, 2), (1, 2)]));
     assert!(rt; is_taped(b"\xd8\x20\xc1\x00", 2, 4, &[(0, 3), (2, 3), (3, 3)]));
 }
@@ -127,6 +131,12 @@ fn keys_of_every_kind(rt: HostRuntime) {
     assert!(rt; !is_left(b"\xa2\x63abd\x00\x7f\x60\x62ab\x60\x61c\x60\xff\x00", 1));
     assert!(rt; !is_left(b"\xa2\x5f\x41a\xff\x00\x7f\x61a\xff\x00", 1));
     assert!(rt; !is_left(b"\xa2\x5f\xff\x00\x5f\x41a\xff\x00", 1));
+    assert!(rt;
+        !is_left(
+            b"\xa2\x5f\x40\x40\x40\x40\x40\x40\x40\x40\x40\x40\x40\x40\x40\x40\x40\xff\x00\x41a\x00",
+            1
+        )
+    );
     // one container among others, and several of other kinds
     assert!(rt; !is_left(b"\xa3\x80\x00\x01\x00\x61a\x00", 2));
     assert!(rt; !is_left(b"\xa3\xa0\x00\x80\x00\xc1\x00\x00", 2));
