@@ -1,11 +1,12 @@
 -- What is read of a head that is surely there.
 use Rattle.std.proofs.Common.{◌≡◌, ℕ, ◌+◌, ◌%◌, ◌<◌, ◌≤◌, ◌^◌, List, [], ◌∷◌, ◌++◌, length, take, drop, get_or, refl, sym, ap, ◌∙◌, arith, length-append, length-drop}
 use Rattle.std.specs.Int.{to_be_bytes, from_be_bytes, w16, w32, w64}
-use Rattle.std.proofs.lemmas.List.{drop-drop, drop_at, take_at, get_or-drop}
+use Rattle.std.proofs.lemmas.List.{drop-drop, drop_at, take_at}
 use Rattle.std.proofs.lemmas.Nat.{from_be_bytes-to_be_bytes_2, from_be_bytes-to_be_bytes_4, from_be_bytes-to_be_bytes_8}
 use Rattle.cbor_data.specs.Preferred.{initial}
 use Rattle.cbor_data.specs.Forms.{ArgumentSize, inside, one, two, four, eight, head_in, FitsSize}
 use Rattle.cbor_data.proofs.Lemmas.{head_some}
+use Rattle.cbor_tape.proofs.Lemmas.{info_of, info_below, head_first, byte_there}
 use Rattle.tape_notation.specs.Heads.{IsHeadAt, IsReadAt}
 
 -- what is behind a front
@@ -13,31 +14,7 @@ pub past : (b : List ℕ) (at k : ℕ) (xs ys : List ℕ) → drop at b ≡ xs +
 past b at k xs ys is len = sym (drop-drop k at b) ∙ (ap (drop k) is ∙ drop_at xs ys k len)
 
 pub byte_at : (b : List ℕ) (at x : ℕ) (ys : List ℕ) → drop at b ≡ x ∷ ys → get_or b at 0 ≡ x
-byte_at b at x ys is =
-    let same : at ≡ at + 0 = omega arith in
-    ap (λ n. get_or b n 0) same ∙ (sym (get_or-drop at b 0 0) ∙ ap (λ l. get_or l 0 0) is)
-
--- the additional information that announces an argument of this size
-abbrev pub info_of : ArgumentSize → ℕ → ℕ
-info_of inside n = n
-info_of one n = 24
-info_of two n = 25
-info_of four n = 26
-info_of eight n = 27
-
-pub info_below : (p : ArgumentSize) (n : ℕ) → FitsSize p n → info_of p n < 28
-info_below inside n h = omega arith
-info_below one n h = omega arith
-info_below two n h = omega arith
-info_below four n h = omega arith
-info_below eight n h = omega arith
-
-pub head_first : (p : ArgumentSize) (m n : ℕ) (r : List ℕ) → get_or (head_in p m n ++ r) 0 0 ≡ initial m (info_of p n)
-head_first inside m n r = refl
-head_first one m n r = refl
-head_first two m n r = refl
-head_first four m n r = refl
-head_first eight m n r = refl
+byte_at b at x ys is = byte_there b at (x ∷ ys) is
 
 abbrev pub head_length : ArgumentSize → ℕ
 head_length inside = 1
@@ -61,8 +38,7 @@ pub record HeadThere (b : List ℕ) (at : ℕ) (p : ArgumentSize) (n : ℕ) (aft
 
 pub head_there : (b : List ℕ) (at m n : ℕ) (p : ArgumentSize) (after : List ℕ) → FitsSize p n → drop at b ≡ head_in p m n ++ after → HeadThere b at p n after
 head_there b at m n p after fits is =
-    let same : at ≡ at + 0 = omega arith in
-    let first : get_or b at 0 ≡ initial m (info_of p n) = ap (λ k. get_or b k 0) same ∙ (sym (get_or-drop at b 0 0) ∙ (ap (λ l. get_or l 0 0) is ∙ head_first p m n after)) in
+    let first : get_or b at 0 ≡ initial m (info_of p n) = byte_there b at (head_in p m n ++ after) is ∙ head_first p m n after in
     let small : info_of p n < 28 = info_below p n fits in
     let counted : length (head_in p m n) ≡ head_length p = head_counted p m n in
     let some : 0 < length (head_in p m n) = head_some p m n in

@@ -6,7 +6,8 @@ use Rattle.cbor_data.proofs.Lemmas.{head_some}
 use Rattle.tape_notation.specs.Heads.{HasHead, IsReadAt, AreChunksFrom}
 use Rattle.tape_notation.specs.Put.{IsPut}
 use Rattle.tape_notation.proofs.Forms.{IsStringAt}
-use Rattle.tape_notation.proofs.Heads.{byte_at, info_of, info_below, head_there}
+use Rattle.cbor_tape.proofs.Lemmas.{info_of, info_below}
+use Rattle.tape_notation.proofs.Heads.{byte_at, head_there}
 use Rattle.tape_notation.proofs.Puts.{more_put, same_put}
 
 -- the content of a string whose head was read
