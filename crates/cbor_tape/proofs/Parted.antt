@@ -260,42 +260,30 @@ plain_part b at p whole k f after h =
 bare : (b : List ℕ) (p : Part) → p.key.string.now ≡ [] → p.chunks ≡ None → HasContent b (part_content p) []
 bare b p empty whole = ([], subst (λ (o : Option ℕ). HasChunks b o []) (sym whole) refl, ap (λ l. l ++ []) (sym empty))
 
+-- a part with no string, whose kind is its major type
+headed : (b : List ℕ) (p : Part) (f : Form) (after rest : List ℕ) (m : ℕ) → p.key.kind ≡ m → p.key.string.now ≡ [] → p.chunks ≡ None → mark (meaning f) ≡ m ∷ p.key.argument ∷ rest → ArePartsFrom b p.end (inside_of m p.key.argument) rest after → IsPartOf b f after p
+headed b p f after rest m kind empty whole marked inside = record {
+  content = [];
+  holds = bare b p empty whole;
+  rest = rest;
+  marked = marked ∙ ap (λ k. k ∷ p.key.argument ∷ rest) (sym kind);
+  inside = subst (λ k. ArePartsFrom b p.end (inside_of k p.key.argument) rest after) (sym kind) inside;
+}
+
 array_part : (b : List ℕ) (at : ℕ) (p : Part) → p.key.kind ≡ get_or b at 0 / 32 → p.key.string.now ≡ [] → p.chunks ≡ None → IsArgumentAt b at p.key.argument p.end → get_or b at 0 / 32 ≡ 4 → IsPartAt b at p
 array_part b at p kind empty whole head m f after h =
     let r = array_parts b at p.key.argument p.end f after h head m in
-    let four : 4 ≡ p.key.kind = sym (kind ∙ m) in
-    let count : forms_len r.0 ≡ p.key.argument = r.3 in
-    record {
-      content = [];
-      holds = bare b p empty whole;
-      rest = marks (meanings r.0);
-      marked = ap mark r.1 ∙ ap₂ (λ (k n : ℕ). k ∷ n ∷ marks (meanings r.0)) four (values_counted r.0 ∙ count);
-      inside = subst (λ k. ArePartsFrom b p.end (inside_of k p.key.argument) (marks (meanings r.0)) after) four (r.0, r.2, count, refl);
-    }
+    headed b p f after (marks (meanings r.0)) 4 (kind ∙ m) empty whole (ap mark r.1 ∙ ap (λ n. 4 ∷ n ∷ marks (meanings r.0)) (values_counted r.0 ∙ r.3)) (r.0, r.2, r.3, refl)
 
 map_part : (b : List ℕ) (at : ℕ) (p : Part) → p.key.kind ≡ get_or b at 0 / 32 → p.key.string.now ≡ [] → p.chunks ≡ None → IsArgumentAt b at p.key.argument p.end → get_or b at 0 / 32 ≡ 5 → IsPartAt b at p
 map_part b at p kind empty whole head m f after h =
     let r = map_pairs b at p.key.argument p.end f after h head m in
-    let five : 5 ≡ p.key.kind = sym (kind ∙ m) in
-    record {
-      content = [];
-      holds = bare b p empty whole;
-      rest = [];
-      marked = ap mark r.1 ∙ ap₂ (λ (k n : ℕ). k ∷ n ∷ []) five r.2;
-      inside = subst (λ k. ArePartsFrom b p.end (inside_of k p.key.argument) [] after) five tt;
-    }
+    headed b p f after [] 5 (kind ∙ m) empty whole (ap mark r.1 ∙ ap (λ n. 5 ∷ n ∷ []) r.2) tt
 
 tagged_part : (b : List ℕ) (at : ℕ) (p : Part) → p.key.kind ≡ get_or b at 0 / 32 → p.key.string.now ≡ [] → p.chunks ≡ None → IsArgumentAt b at p.key.argument p.end → get_or b at 0 / 32 ≡ 6 → IsPartAt b at p
 tagged_part b at p kind empty whole head m f after h =
     let r = tag_part b at p.key.argument p.end f after h head m in
-    let six : 6 ≡ p.key.kind = sym (kind ∙ m) in
-    record {
-      content = [];
-      holds = bare b p empty whole;
-      rest = mark (meaning r.0);
-      marked = ap mark r.1 ∙ ap (λ k. k ∷ p.key.argument ∷ mark (meaning r.0)) six;
-      inside = subst (λ k. ArePartsFrom b p.end (inside_of k p.key.argument) (mark (meaning r.0)) after) six (form r.0 no_forms, r.2, refl, sym (append-nil (mark (meaning r.0))));
-    }
+    headed b p f after (mark (meaning r.0)) 6 (kind ∙ m) empty whole (ap mark r.1) (form r.0 no_forms, r.2, refl, sym (append-nil (mark (meaning r.0))))
 
 pub container_part : (b : List ℕ) (at : ℕ) (p : Part) → p.key.kind ≡ get_or b at 0 / 32 → p.key.string.now ≡ [] → p.chunks ≡ None → IsArgumentAt b at p.key.argument p.end → 4 ≤ get_or b at 0 / 32 → get_or b at 0 / 32 ≤ 6 → IsPartAt b at p
 container_part b at p kind empty whole head least most =
