@@ -94,6 +94,46 @@ def numbers(size):
     return head(4, size) + bytes(size)
 
 
+def tags(size):
+    """An array of numbers, each in 200 tags: so many bytes of them."""
+    return head(4, size // 201) + (b"\xc1" * 200 + b"\0") * (size // 201)
+
+
+def deep(choices, further=""):
+    """A specification of these alternatives, in any number of arrays; and 70 arrays for an item."""
+    return f"r = a\na = [a] / x\nx = {choices}\n{further}", b"\x81" * 70
+
+
+def deep_strings_of_tags(size):
+    """One string of tags, which 40 alternatives read."""
+    spec, front = deep(rows(40, "bstr .cbor [N, * any]", " / "))
+    return spec, front + encoded_string(tags(size))
+
+
+def deep_short_strings(size, content=b"\0"):
+    """So many strings of a number, which 60 alternatives read one by one."""
+    spec, front = deep(rows(60, "[* s, 2N]", " / "), "s = bstr .cborseq [* int]\n")
+    return spec, front + head(4, size) + encoded_string(content) * size
+
+
+def levels_of_tags(size):
+    """20 strings in each other, each beside an array of tags, of which each is read twice by the one round it."""
+    item = b"\0"
+    for _ in range(20):
+        item = b"\x82" + tags(size // 20) + encoded_string(item)
+    return "t = [any, bstr .cbor t, any] / [any, bstr .cbor t] / int\n", item
+
+
+def encoded_string(content):
+    return head(2, len(content)) + content
+
+
+def kept_and_waiting(size):
+    """A string of tags that 15 alternatives read, beside strings in each other that are asked about by 2,000 names."""
+    spec, front = deep("[k, t]", f"k = {rows(15, 'bstr .cbor [N, * any]', ' / ')} / any\n{chain_of_names(2000)}")
+    return spec, front + b"\x82" + encoded_string(tags(size // 2)) + strings(size // 10)
+
+
 CHECKS = [
     ("calls with other arguments, and a long body", arguments, 500, 1000),
     ("a call of itself with a longer argument", lambda size: f"r = [b<int>]\nb<t> = [t, ? b<[{rows(size, 't')}]>]\n", 400, 800),
@@ -122,6 +162,12 @@ ITEMS = [
     ("a long array, taken by so many arrays with a number", [],
      lambda size: (f"r = {rows(size, '[any, N]', ' / ')}\n", head(4, 2) + numbers(200 * size) + encoded(size)), 1250, 2500),
     ("names in a chain, and as many strings in each other", [], lambda size: (chain_of_names(size), strings(size)), 1000, 2000),
+    ("many strings in each other, and 2,000 names", [], lambda size: (chain_of_names(2000), strings(size)), 100_000, 200_000),
+    ("a string of tags, read by 40 alternatives, 70 arrays deep", [], deep_strings_of_tags, 512 * KIB, MIB),
+    ("a string of tags, read by 15, beside strings for 2,000 names", [], kept_and_waiting, 512 * KIB, MIB),
+    ("strings of a number, read by 60, 70 arrays deep", [], deep_short_strings, 8 * KIB, 16 * KIB),
+    ("empty strings, read by 60, 70 arrays deep", [], lambda size: deep_short_strings(size, b""), 8 * KIB, 16 * KIB),
+    ("tags beside 20 strings in each other, read twice", [], levels_of_tags, 512 * KIB, MIB),
     ("empty maps, and so many entries that may be absent", [],
      lambda size: (optional_entries(size), head(4, size) + b"\xa0" * size), 8000, 16_000),
     ("other keys than so many literal ones", [], lambda size: (literal_keys(size), other_keys(size)), 8000, 16_000),

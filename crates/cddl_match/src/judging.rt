@@ -28,9 +28,9 @@ const MOST_CALLS: u8 = 64;
 ///
 /// `AllocError` where there is no memory for the questions that wait, for the tally of a map's pairs, or for what byte
 /// strings hold; or where more bytes are to be read in these than 1 MiB, and 64 for each item and each byte of a string in the
-/// item, those that are read again too, or a quarter of that kept at once for questions that wait. Each 16 entries that are gone
-/// through for a map and its pairs, 16 places of a large item that are counted, and 16 bytes of a long string that is compared
-/// count as one such byte; and a question that waits needs 16.
+/// item, those that are read again too, or an eighth of that kept at once for questions that wait, where a string counts four
+/// bytes more than it has. Each 16 entries that are gone through for a map and its pairs, 16 places of a large item that are
+/// counted, and 16 bytes of a long string that is compared count as one such byte; and a question that waits needs 16.
 pub fn verdict(
     alloc: Global,
     table: &Table,

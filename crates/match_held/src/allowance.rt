@@ -18,7 +18,11 @@ const FREE: usize = 1 << 20;
 const EACH: usize = 64;
 
 /// This part of the bytes that may be read may be those of items that are kept at once.
-const KEPT: usize = 4;
+const KEPT: usize = 8;
+
+/// What a string holds takes memory beside its bytes while it is kept, as so many of them do: else empty ones could be kept without
+/// a limit.
+const KEPT_BESIDE: usize = 4;
 
 /// So much work counts as one byte that is read: so many entries that are gone by, places that are counted, or bytes of a long
 /// string that are compared.
@@ -262,14 +266,15 @@ impl<'i> Allowance<'i> {
         questions <= self.most / WAITING
     }
 
-    /// Takes so many bytes for what is kept, if so many may be kept yet: a quarter of those that may be read.
+    /// Takes so many bytes, and four more, for a string of which it is kept what it holds, if so many may be kept yet: an eighth of
+    /// those that may be read.
     pub fn take_kept(&mut self, bytes: usize) -> bool
-        ensures said { IsTrue result ↔ plus self.old.kept bytes ≤ most_in self.old / 4 }
-        ensures taken { IsTrue result → self.new.kept ≡ plus self.old.kept bytes }
+        ensures said { IsTrue result ↔ plus (plus self.old.kept bytes) 4 ≤ most_in self.old / 8 }
+        ensures taken { IsTrue result → self.new.kept ≡ plus (plus self.old.kept bytes) 4 }
         ensures most { most_in self.new ≡ most_in self.old }
         ensures read { self.new.read ≡ self.old.read }
     {
-        let kept = plus(self.kept, bytes);
+        let kept = plus(plus(self.kept, bytes), KEPT_BESIDE);
         if kept <= self.most / KEPT {
             self.kept = kept;
             return true;

@@ -94,7 +94,7 @@ impl<'i> Shelf<'i> {
     }
 
     /// No cell is filled yet. For this item 1 MiB may be read in byte strings, and 64 bytes for each item and each byte of a
-    /// string in it, where bytes that are read again count again. A quarter of that may be kept.
+    /// string in it, where bytes that are read again count again. An eighth of that may be kept.
     pub fn for_item(alloc: Global, cells: &'i Cells, item: &'i Item) -> Shelf<'i>
         ensures most { most_in result.allowance ≡ plus (2 ^ 20) (64 * size (view item.now)) }
         ensures nothing { result.allowance.read + result.allowance.kept ≡ 0 }
@@ -131,15 +131,16 @@ impl<'i> Shelf<'i> {
         held_in(self.alloc, content, bytes)
     }
 
-    /// The item, which so many bytes were, for as long as the cells.
+    /// The item, which so many bytes were, for as long as the cells. It takes these bytes, and four more, from those that may be
+    /// kept.
     ///
     /// # Errors
     ///
     /// `AllocError` where there is no memory for it, or where no more may be kept.
     pub fn keep(&mut self, item: Item, bytes: usize) -> Result<&'i Item, AllocError>
         ensures kept { IfOk result (λ kept. kept.now ≡ item) }
-        ensures within { OnOk result (plus self.old.allowance.kept bytes ≤ most_in self.old.allowance / 4) }
-        ensures taken { OnOk result (self.new.allowance.kept ≡ plus self.old.allowance.kept bytes) }
+        ensures within { OnOk result (plus (plus self.old.allowance.kept bytes) 4 ≤ most_in self.old.allowance / 8) }
+        ensures taken { OnOk result (self.new.allowance.kept ≡ plus (plus self.old.allowance.kept bytes) 4) }
     {
         if !self.allowance.take_kept(bytes) {
             return Err(AllocError);
