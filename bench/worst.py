@@ -145,6 +145,7 @@ CHECKS = [
     ("joins of a text of 32 KiB", joins, 1000, 2000),
     ("a rule of many parameters", lambda size: generic(size, 1, ""), 256 * KIB, 512 * KIB),
     ("the same, not reached", lambda size: generic(size, 0, ""), 256 * KIB, 512 * KIB),
+    ("rules of 120 choices of groups in each other", lambda size: rows(size, f"tN = {'&(' * 120}int{')' * 120} / tM", chr(10)) + f"\nt{size} = 1\n", 128, 256),
     ("a list in 120 parentheses", lambda size: f"r = [{'(' * 120}{rows(size, 'N')}{')' * 120}]\n", 10_000, 20_000),
 ]
 SUIT = os.path.join(os.path.dirname(os.path.dirname(os.path.abspath(__file__))), "examples", "suit.cddl")
