@@ -11,4 +11,5 @@ pub mod WholeHeads
 pub mod LastHeads
 pub mod Taking
 pub mod Steps
+pub mod Spelled
 pub mod Lemmas

@@ -9,3 +9,4 @@ pub mod Taking
 pub mod Progress
 pub mod Props
 pub mod Working
+pub mod Spelled
