@@ -9,3 +9,4 @@ mod Joined
 mod Wrong
 mod Somewhere
 mod Small
+mod Taped

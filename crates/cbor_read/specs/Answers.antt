@@ -4,6 +4,8 @@ use Rattle.std.specs.declared.alloc.AllocError.{AllocError}
 use Rattle.cbor_data.specs.Value.{Value, uint}
 use Rattle.cbor_data.specs.Forms.{IsWellFormed, IsUnfinished}
 use Rattle.cbor_data.specs.Faults.{BeginsWithin, IsClearBefore, IsItem, IsFaultOf, last_offset}
+use Rattle.cbor_tape.specs.Tape.{IsWholeTape}
+use Rattle.cbor_tape.specs.declared.entry.Entry.{Entry}
 use Rattle.cbor_read.specs.Reading.{Reading}
 use Rattle.cbor_read.specs.declared.fault.Fault as declared
 use Rattle.cbor_data.specs.declared.FaultKind.{FaultKind}
@@ -42,6 +44,14 @@ pub record IsSmallNext (r : Reading) (piece : List ℕ) : Type 0 where
   pub placed : r.offset < last_offset
   pub some : 0 < length piece
   pub small : slice_index piece 0 < 24
+
+-- The item for which the tape stands ended with byte `used` of the piece, with whose first byte it began, and the next one begins
+-- after it.
+pub record IsTapeTaken (old : Reading) (piece : List ℕ) (used : ℕ) (tape : List Entry) (new : Reading) : Type 0 where
+  pub going : old.stopped ≡ None
+  pub between : old.fed ≡ []
+  pub whole : IsWholeTape old.limits.depth piece tape used
+  pub taken : IsTaken old piece used whole.value new
 
 -- How far a piece is used before a fault of this kind at this place is reported: up to the fault's byte, or, where the item
 -- is whole, up to its end.

@@ -1,6 +1,6 @@
 //! Reads items from pieces.
-ghost use Rattle.std.specs.Prelude.{◌≡◌, ◌↔◌, [], None, IfNone, IfOk, IfSome, IsSome};
-ghost use Rattle.cbor_read.specs.Answers.{IsAgain, IsAnswer, IsEnd, IsSmallNext, IsSmallTaken};
+ghost use Rattle.std.specs.Prelude.{◌≡◌, ◌↔◌, ◌<◌, ◌≤◌, ◌^◌, [], None, IfNone, IfOk, IfSome, IsSome, length};
+ghost use Rattle.cbor_read.specs.Answers.{IsAgain, IsAnswer, IsEnd, IsSmallNext, IsSmallTaken, IsTapeTaken};
 ghost use Rattle.cbor_read.specs.Reading.{open_reading};
 ghost use Rattle.cbor_read.specs.Steps.{IsKept};
 ghost use Rattle.cbor_read.specs.Turns.{IsTurn, IsWholeTurn};
@@ -10,6 +10,7 @@ use crate::follow::{Advance, fault_at_end, follow, front_of, room_of};
 use crate::limits::Limits;
 use crate::value::{Outcome, front_item, sound_of};
 use cbor_item::Sound;
+use cbor_tape::{Entry, whole_tape};
 use history::History;
 use read_building::Work;
 use std::alloc::{AllocError, Global};
@@ -150,6 +151,29 @@ impl ItemReader {
         }
         self.offset += 1;
         Some(piece[0])
+    }
+
+    /// Takes the item at the front of the piece where it is the next one and whole there, and answers where it ends. No item is
+    /// built: from the front of `tape` on its places are written, as by [`whole_tape`], which says how long `tape` has to be for
+    /// any map. `None` says nothing, and only what is on the tape is changed: `feed` tells what the piece leads to. Takes no
+    /// memory.
+    #[inline]
+    pub fn take_taped(&mut self, piece: &[u8], tape: &mut [Entry]) -> Option<usize>
+        requires room { length piece.now ≤ length tape.old }
+        requires short { length piece.now < 2 ^ 32 }
+        ensures taken { IfSome result (λ used. IsTapeTaken self.old piece.now used tape.new self.new) }
+        ensures kept { IfNone result (self.new ≡ self.old) }
+    {
+        if self.stopped.is_some() || self.count != 0 {
+            return None;
+        }
+        let room = room_of(self.limits, self.offset, 0);
+        let length = whole_tape(piece, self.limits.depth(), tape)?;
+        if length > room {
+            return None;
+        }
+        self.offset += length as u64;
+        Some(length)
     }
 
     /// Whether the stream may end here: between two items of a reader that has not stopped. Takes no memory.
