@@ -16,6 +16,8 @@ pub mod Heads
 pub mod Small
 pub mod Smalls
 pub mod Accepting
+pub mod FirstBytes
+pub mod Tapes
 pub mod Rereading
 pub mod InOrder
 pub mod OneEnd

@@ -6,6 +6,8 @@ use Rattle.cbor_data.specs.Faults.{last_offset}
 use Rattle.cbor_data.specs.Sequence.{Found}
 use Rattle.cbor_data.specs.declared.FaultKind.{FaultKind}
 use Rattle.cbor_data.specs.declared.FaultKind.TheVariants as kind
+use Rattle.cbor_tape.specs.Tape.{IsWholeTape}
+use Rattle.cbor_tape.specs.declared.entry.Entry.{Entry}
 use Rattle.seq_run.specs.declared.end.Cause.TheVariants.{Fault, Mismatch, Spent}
 use Rattle.seq_run.specs.declared.end.End.{End}
 use Rattle.seq_run.specs.declared.end.End.TheVariants.{Clean, Failed}
@@ -113,6 +115,12 @@ pub record AreSmallsFed (old : Progress) (numbers : List ℕ) (new : Progress) :
   pub next : new ≡ record old { fed = old.fed ++ numbers; taken = old.taken ++ smalls_from offset numbers }
   pub ends : 0 < length numbers → Ends new.judge new.limits new.fed new.taken (Clean (length new.taken) (length new.fed))
   pub short : offset + length numbers ≤ last_offset
+
+-- The item was accepted for which the tape stands, which ends with byte `used` of the piece and begins with its first byte.
+pub record IsTapeFed (old : Progress) (piece : List ℕ) (used : ℕ) (tape : List Entry) (new : Progress) : Type 0 where
+  pub depth : ℕ
+  pub whole : IsWholeTape depth piece tape used
+  pub fed : IsItemFed old piece used whole.value new
 
 -- what `feed_one` answers of a session that has not stopped
 abbrev pub IsFedOne : Progress → List ℕ → Result Step AllocError → Progress → Type 0

@@ -17,6 +17,13 @@ item_output mode.EndLine number f = []
 item_output mode.Rewrite number f = preferred f.item
 item_output mode.Deterministic number f = deterministic f.item
 
+-- what is written of an item, if anything is, is its line
+abbrev pub IsOfLines : Mode → Type 0
+IsOfLines mode.Report = Unit {0}
+IsOfLines mode.EndLine = Unit {0}
+IsOfLines mode.Rewrite = ⊥
+IsOfLines mode.Deterministic = ⊥
+
 -- what is written of these items, the first of which has this number
 abbrev pub items_output : Mode → ℕ → List Found → List ℕ
 items_output m number [] = []

@@ -1,7 +1,8 @@
 //! What says of items whether they are accepted.
 
-ghost use Rattle.std.specs.Prelude.{◌≡◌, ◌<◌, ◌≤◌, ◌↔◌, ℕ, [], length, take, IfSome, IsTrue};
-ghost use Rattle.cbor_data.specs.Value.{uint};
+ghost use Rattle.std.specs.Prelude.{◌≡◌, ◌/◌, ◌<◌, ◌≤◌, ◌↔◌, ℕ, [], length, take, IfSome, IsTrue};
+ghost use Rattle.cbor_data.specs.Value.{uint, Value};
+ghost use Rattle.cddl_meaning.specs.Forms.{major_of};
 ghost use Rattle.seq_run.specs.Smalls.{AreSmallsTaken, IsLongestFront, IsMarked};
 
 use cbor_item::{Item, Sound};
@@ -9,7 +10,7 @@ use cbor_read::ItemReader;
 use cddl_match::{Verdict, verdict};
 use std::alloc::{AllocError, Global};
 use std::marker::Model;
-use table_nodes::Table;
+use table_nodes::{Table, Told};
 
 // How many unsigned integers are one byte.
 const NUMBERS: usize = 24;
@@ -59,6 +60,17 @@ impl<'t> Examiner<'t> {
         ensures spent { result ≡ Ok Verdict.Spent → Overruns self.now item.now [] }
     {
         verdict(alloc, self.table, item, self.steps)
+    }
+
+    // Whether the table tells that the specification accepts each item whose initial byte is this one, whatever is in it.
+    #[inline]
+    pub(crate) fn accepts_kind(&self, byte: u8) -> bool
+        ensures { IsTrue result → (x : Value) → major_of x ≡ byte / 32 → Accepts self.now x [] }
+    {
+        match self.table.told(self.table.root(), byte / 32) {
+            Told::Yes(judgements) => u64::from(judgements) <= self.steps,
+            Told::No(_) | Told::Nothing => false,
+        }
     }
 
     // Whether the specification accepts the item. False also where there was no memory to say so.

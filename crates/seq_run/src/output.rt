@@ -1,18 +1,21 @@
 //! What a run writes.
 
-ghost use Rattle.std.specs.Prelude.{◌≡◌, ◌+◌, ◌<◌, ◌≤◌, ◌++◌, ◌^◌, All, length, suc, OnOk, option_copied};
+ghost use Rattle.std.specs.Prelude.{◌≡◌, ◌+◌, ◌<◌, ◌≤◌, ◌++◌, ◌^◌, ℕ, All, length, suc, IsTrue, OnOk, option_copied};
 ghost use Rattle.cbor_data.specs.Deterministic.{deterministic};
 ghost use Rattle.cbor_data.specs.Preferred.{preferred};
 ghost use Rattle.cbor_data.specs.Value.{uint};
-ghost use Rattle.seq_run.specs.Output.{end_output, item_output, items_output};
+ghost use Rattle.cbor_tape.specs.Tape.{IsWholeTape};
+ghost use Rattle.tape_notation.specs.OnTape.{IsTaped};
+ghost use Rattle.seq_run.specs.Output.{IsOfLines, end_output, item_output, items_output};
 ghost use Rattle.seq_run.specs.Report.{IsShown};
 ghost use Rattle.seq_run.specs.Smalls.{smalls_from};
 ghost use Rattle.seq_run.specs.declared.output.Mode.TheVariants.{Report};
 
 use crate::end::End;
 use crate::head::Head;
-use crate::lines::{end_line, push_item_line};
+use crate::lines::{end_line, push_item_line, push_taped_line};
 use cbor_item::{Counted, Sound, write_det, write_item};
+use cbor_tape::Entry;
 use std::alloc::{AllocError, Global};
 use std::mem;
 
@@ -46,6 +49,35 @@ pub(crate) fn push_item(
         Mode::EndLine => Ok(()),
         Mode::Rewrite => push_preferred(alloc, bytes, item),
         Mode::Deterministic => push_deterministic(alloc, bytes, item),
+    }
+}
+
+// Whether what is written of an item, if anything is, is its line.
+pub(crate) fn writes_lines(mode: Mode) -> bool
+    ensures { IsTrue result → IsOfLines mode }
+{
+    matches!(mode, Mode::Report | Mode::EndLine)
+}
+
+// Appends what is written of the item that the first `end` bytes spell, from these and its tape.
+pub(crate) fn push_taped(
+    mode: Mode,
+    head: &mut Head,
+    lines: &mut Vec<u8>,
+    number: u64,
+    offset: u64,
+    bytes: &[u8],
+    end: usize,
+    tape: &[Entry],
+) -> Result<(), AllocError>
+    requires mode { IsOfLines mode }
+    requires taped { IsTaped bytes.now tape.now end }
+    ensures { OnOk result ((depth : ℕ) (whole : IsWholeTape depth bytes.now tape.now end) → lines.new.items ≡ lines.old.items ++ item_output mode number (record { offset = offset; item = whole.value })) }
+{
+    match mode {
+        Mode::Report => push_taped_line(head, lines, number, offset, bytes, end, tape),
+        Mode::EndLine => Ok(()),
+        Mode::Rewrite | Mode::Deterministic => unreachable!(),
     }
 }
 

@@ -1,11 +1,12 @@
 //! Runs a stream that a device gives, and writes its report, or its items, to another.
 
-ghost use Rattle.std.specs.Prelude.{◌≡◌, List, [], None, IfOk, IfErr, OnOk, IfSome};
+ghost use Rattle.std.specs.Prelude.{◌≡◌, List, [], None, IfNone, IfOk, IfErr, OnOk, IfSome};
 ghost use Rattle.cbor_data.specs.Value.{Value};
 ghost use Rattle.item_nodes.specs.Counted.{device_of, failures_of};
-ghost use Rattle.seq_run.specs.Answers.{IsFed};
+ghost use Rattle.seq_run.specs.Answers.{IsFed, IsTapeFed};
 ghost use Rattle.seq_run.specs.Ends.{IsDecisive};
 ghost use Rattle.seq_run.specs.Judge.{judge_of};
+ghost use Rattle.seq_run.specs.Output.{IsOfLines};
 ghost use Rattle.seq_run.specs.Report.{IsShown};
 ghost use Rattle.seq_run.specs.Running.{Adds, IsDecided, IsFault, IsPieceDone, ReadsByPieces, WritesAll, change_of};
 ghost use Rattle.seq_run.specs.Watching.{TellsByPieces};
@@ -14,11 +15,12 @@ ghost use Rattle.seq_run.specs.Written.{IsReadBack, IsWrittenStream};
 use crate::end::{End, State};
 use crate::head::Head;
 use crate::laws::{decisive_end, written_is_read_back};
-use crate::output::{Mode, push_end, push_item, push_smalls};
+use crate::output::{Mode, push_end, push_item, push_smalls, push_taped, writes_lines};
 use crate::session::{Session, Step};
 use crate::watching::{Unwatched, Watch};
 use cbor_item::{Counted, Sound, write_bytes};
 use cbor_read::Limits;
+use cbor_tape::Entry;
 use cddl_match::shows_inside;
 use std::alloc::{AllocError, Global};
 use std::io::{Read, Write};
@@ -27,6 +29,9 @@ use thiserror::Error;
 
 // How many bytes are read at once, at most.
 const PIECE: usize = 4096;
+
+// How long the array for tapes is: where it is half as long again as the bytes, the keys of any map can be put in order on it.
+const TAPE: usize = PIECE + PIECE / 2;
 
 /// Why a run stopped before its output was whole.
 #[derive(Clone, Copy, Debug, PartialEq, Eq, Error)]
@@ -48,6 +53,9 @@ pub enum RunFault {
 /// What a piece adds to the output is put together and written before the next one is read. Beside the item that is being read
 /// it takes memory for the output of one piece: that of one item, and of items in 4,096 bytes more. In
 /// [`Mode::Deterministic`] it takes what [`cbor_item::write_det`] does, too, to put one item in order.
+///
+/// In [`Mode::Report`] and [`Mode::EndLine`] no item is built that is whole in a piece and is accepted for its major type alone:
+/// it is checked and written from its bytes, by a tape ([`cbor_tape::whole_tape`]) in 48 KiB that are asked for once.
 ///
 /// # Errors
 ///
@@ -104,6 +112,7 @@ pub fn run_watched<R: Read, W: Write, P: Watch>(
 {
     let mut session = Session::new(alloc, table, limits, steps);
     let mut buffer = [0; PIECE];
+    let mut tape = tape_for(alloc, mode);
     let mut bytes = Vec::new(alloc);
     let mut reported = 0;
     let mut written = 0;
@@ -113,7 +122,8 @@ pub fn run_watched<R: Read, W: Write, P: Watch>(
             return Err(RunFault::ReadFailed(reported));
         };
         bytes.clear();
-        let Ok(end) = take_piece(alloc, mode, &mut session, &buffer[..count], &mut bytes) else {
+        let piece = &buffer[..count];
+        let Ok(end) = take_piece(alloc, mode, &mut tape, &mut session, piece, &mut bytes) else {
             return Err(RunFault::Memory(reported));
         };
         if let Err(fault) = write_bytes(bytes.as_slice(), output) {
@@ -132,11 +142,23 @@ pub fn run_watched<R: Read, W: Write, P: Watch>(
     }
 }
 
+// An array for tapes. It is empty where none are wanted, and where there is no memory for it: then each item is built.
+fn tape_for(alloc: Global, mode: Mode) -> Vec<Entry> {
+    if !writes_lines(mode) {
+        return Vec::new(alloc);
+    }
+    match vec![in alloc; Entry { head: 0, next: 0 }; TAPE] {
+        Ok(tape) => tape,
+        Err(_) => Vec::new(alloc),
+    }
+}
+
 // Takes a piece of the stream, or its end where the piece is empty, and gives its output: that of the items that the piece
 // completes, and that of the end, if it is known now.
 fn take_piece(
     alloc: Global,
     mode: Mode,
+    tape: &mut [Entry],
     session: &mut Session<'_>,
     piece: &[u8],
     bytes: &mut Vec<u8>,
@@ -145,7 +167,7 @@ fn take_piece(
     requires empty { bytes.old.items ≡ [] }
     ensures { IfOk result (λ end. IsPieceDone mode session.old piece.now end session.new bytes.new.items) }
 {
-    match take_items(alloc, mode, session, piece, bytes)? {
+    match take_items(alloc, mode, tape, session, piece, bytes)? {
         State::Open => Ok(None),
         State::Ended(end) => {
             shows_inside();
@@ -159,6 +181,7 @@ fn take_piece(
 fn take_items(
     alloc: Global,
     mode: Mode,
+    tape: &mut [Entry],
     session: &mut Session<'_>,
     piece: &[u8],
     bytes: &mut Vec<u8>,
@@ -171,13 +194,14 @@ fn take_items(
         let end = session.finish()?;
         return Ok(State::Ended(end));
     }
-    feed_items(alloc, mode, session, piece, bytes)
+    feed_items(alloc, mode, tape, session, piece, bytes)
 }
 
 // Feeds a piece, and appends the output of the items that it completes.
 fn feed_items(
     alloc: Global,
     mode: Mode,
+    tape: &mut [Entry],
     session: &mut Session<'_>,
     piece: &[u8],
     bytes: &mut Vec<u8>,
@@ -196,6 +220,11 @@ fn feed_items(
             rest = &rest[count..];
             continue;
         }
+        if let Some(end) = take_taped(mode, tape, session, rest) {
+            push_taped(mode, &mut head, bytes, before + 1, offset, rest, end, tape)?;
+            rest = &rest[end..];
+            continue;
+        }
         match session.feed_one(rest)? {
             Step::More => return Ok(State::Open),
             Step::Ended(end) => return Ok(State::Ended(end)),
@@ -206,4 +235,21 @@ fn feed_items(
             }
         }
     }
+}
+
+// Takes the item at the front of the rest by its tape, where only its line is written of it, if anything is.
+fn take_taped(
+    mode: Mode,
+    tape: &mut [Entry],
+    session: &mut Session<'_>,
+    rest: &[u8],
+) -> Option<usize>
+    requires { session.old.stopped ≡ None }
+    ensures taken { IfSome result (λ end. IsOfLines mode × IsTapeFed session.old rest.now end tape.new session.new) }
+    ensures kept { IfNone result (session.new ≡ session.old) }
+{
+    if !writes_lines(mode) || rest.len() > PIECE || rest.len() > tape.len() {
+        return None;
+    }
+    session.take_taped(rest, tape)
 }

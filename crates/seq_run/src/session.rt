@@ -1,7 +1,7 @@
 //! A session: the run of a stream that comes in pieces.
 
-ghost use Rattle.std.specs.Prelude.{◌≡◌, ◌+◌, ◌<◌, ◌≤◌, ◌++◌, ◌^◌, [], length, map, take, None, Err, alloc_error, option_copied, vec_capacity, vec_len, OnOk};
-ghost use Rattle.seq_run.specs.Answers.{Appends, IsAnswer, IsFinish, IsLent, IsCount, IsFedOne, IsStep, AreSmallsFed};
+ghost use Rattle.std.specs.Prelude.{◌≡◌, ◌+◌, ◌<◌, ◌≤◌, ◌++◌, ◌^◌, [], length, map, take, None, Err, alloc_error, option_copied, vec_capacity, vec_len, IfNone, IfSome, OnOk};
+ghost use Rattle.seq_run.specs.Answers.{Appends, IsAnswer, IsFinish, IsLent, IsCount, IsFedOne, IsStep, IsTapeFed, AreSmallsFed};
 ghost use Rattle.seq_run.specs.FoundItem.{found_of};
 ghost use Rattle.seq_run.specs.Rest.{AreRest, progress_of};
 ghost use Rattle.seq_run.specs.Smalls.{smalls_from};
@@ -12,6 +12,7 @@ use crate::end::{Cause, End, State, Stopped};
 use crate::examiner::Examiner;
 use cbor_item::Sound;
 use cbor_read::{Fed, ItemReader, Limits, Stop};
+use cbor_tape::Entry;
 use cddl_match::{Verdict, one_answer};
 use history::History;
 use std::alloc::{AllocError, Global};
@@ -23,6 +24,8 @@ use table_nodes::Table;
 pub(crate) enum FoundItem {
     // An unsigned integer below 24.
     Small { offset: u64, n: u8 },
+    // The item that these bytes spell, of which there is no other copy.
+    Spelled { offset: u64, bytes: History<u8> },
     Other { offset: u64, item: Sound },
 }
 
@@ -339,6 +342,29 @@ impl<'t> Session<'t> {
         self.fed.extend(&piece[..count]);
         self.count.add_smalls(count);
         count
+    }
+
+    // Takes the item at the front of the piece where it is the next one, is whole there and is accepted for its first byte alone,
+    // and answers where it ends. Then its tape is at the front of `tape`. None says nothing, and only the tape is changed.
+    pub(crate) fn take_taped(&mut self, piece: &[u8], tape: &mut [Entry]) -> Option<usize>
+        requires going { self.old.stopped ≡ None }
+        requires room { length piece.now ≤ length tape.old }
+        requires short { length piece.now < 2 ^ 32 }
+        ensures taken { IfSome result (λ used. IsTapeFed self.old piece.now used tape.new self.new) }
+        ensures kept { IfNone result (self.new ≡ self.old) }
+    {
+        if piece.is_empty() || !self.examiner.accepts_kind(piece[0]) {
+            return None;
+        }
+        let end = self.reader.take_taped(piece, tape)?;
+        let bytes = &piece[..end];
+        self.taken.push(&FoundItem::Spelled {
+            offset: self.count.offset,
+            bytes: History::new().and(bytes),
+        });
+        self.fed.extend(bytes);
+        self.count.add_item(end);
+        Some(end)
     }
 
     // What is done where an item of the piece would have no room.
