@@ -21,8 +21,10 @@ from run_rows import feed, pipe
 
 SECONDS = 60
 # what is asked of each stream
-COMMANDS = (["show"], ["show", "--depth", "3", "--item-bytes", "64"], ["rewrite", "SPEC"], ["validate", "--quiet", "SPEC"])
+COMMANDS = (["show"], ["show", "--depth", "3", "--item-bytes", "64"], ["rewrite", "SPEC"], ["validate", "--quiet", "SPEC"], ["validate", "KINDS"])
 SPECIFICATION = b"item = int / tstr / bstr / [* item] / { * any => item } / #6(item) / float / nil\n"
+# of items of which the major type tells that they match, of some that do and of some that do not
+KINDS = b"item = int / tstr / #4 / #6(int) / float\n"
 
 
 def head(chance, major, argument):
@@ -130,8 +132,9 @@ def compare(program, count=400, start=0):
     """Runs the program on so many streams, prints those that differ, and returns how many passed and failed."""
     failed = 0
     with tempfile.TemporaryDirectory() as folder:
-        with open(os.path.join(folder, "SPEC"), "wb") as file:
-            file.write(SPECIFICATION)
+        for name, text in (("SPEC", SPECIFICATION), ("KINDS", KINDS)):
+            with open(os.path.join(folder, name), "wb") as file:
+                file.write(text)
         for number in range(start, start + count):
             words, stream = COMMANDS[number % len(COMMANDS)], stream_of(number)
             pieces = cut(number, stream)
