@@ -44,8 +44,8 @@ struct Extent {
 /// bytes, each map has room.
 ///
 /// No memory is asked for. Calls are as deep as the item. A byte is looked at once, and a key's also where it is compared: with
-/// the highest key before it, with eight others at most, and where that does not tell, once the map is read, as a sort does. What is in
-/// a map is not looked at when that map is a key, or is in one, and is compared.
+/// the highest key before it, with eight others at most, and where that does not tell, once the map is read, as a sort does. Of a
+/// map in a key, or one that is a key, no pair is looked at when keys are compared.
 pub fn whole_tape(bytes: &[u8], depth: u32, tape: &mut [Entry]) -> Option<usize>
     requires room { length bytes.now ≤ length tape.old }
     requires short { length bytes.now < 2 ^ 32 }
