@@ -7,3 +7,4 @@ mod Members
 mod Showing
 mod Rowing
 mod OfFlags
+mod Asking

@@ -5,3 +5,6 @@ pub mod Ranks
 pub mod Language
 pub mod Flags
 pub mod Majors
+pub mod Codes
+pub mod Choices
+pub mod Indexes

@@ -1,6 +1,8 @@
 //! A table of types and groups, each known by its number: what a matcher runs, and a language by its contracts.
 #![tactic(auto)]
 
+mod choices;
+mod codes;
 pub mod flags;
 mod majors;
 mod nodes;
@@ -8,6 +10,7 @@ mod ranks;
 mod sizes;
 mod table;
 
+pub use crate::choices::{Candidates, MemberIndex};
 pub use crate::majors::{Told, major_of};
 pub use crate::nodes::{
     Content, Group, GroupId, MapEntry, Most, Node, TagNumber, Test, TypeId, Whole,

@@ -2,10 +2,12 @@
 
 ghost use Rattle.std.specs.Prelude.{◌≡◌, max};
 ghost use Rattle.cddl_meaning.specs.Ranks.Ranked.{IsRanked};
+ghost use Rattle.table_nodes.specs.Indexes.{AreIndexed, are_indexed_once};
 ghost use Rattle.table_nodes.specs.Majors.{AreShown, are_shown_once};
 ghost use Rattle.table_nodes.specs.Nodes.{language_in};
 ghost use Rattle.table_nodes.specs.Ranks.{greatest, rank_in};
 
+use crate::choices::{MemberIndex, index_at, indexes_of, may_have_index};
 use crate::majors::{Told, known_of, told_of};
 use crate::nodes::{Group, GroupId, Node, TypeId};
 use crate::ranks::{NotRanked, Ranks, are_ranked, greatest};
@@ -22,19 +24,22 @@ pub struct Table {
     group_ranks: Vec<usize>,
     ranks: usize,
     told: Vec<[Told; 8]>,
+    choices: Vec<MemberIndex>,
     pub ghost bound: { ranks ≡ max (greatest type_ranks.items) (greatest group_ranks.items) },
     pub ghost ranked: { IsRanked (language_in types.items groups.items) (rank_in type_ranks.items group_ranks.items) ranks },
     pub ghost shown: { AreShown types.items told.items } by { are_shown_once types.items told.items },
+    pub ghost indexed: { AreIndexed types.items choices.items } by { are_indexed_once types.items choices.items },
 }
 
 impl Table {
-    ghost use Rattle.std.specs.Prelude.{◌≡◌, [], ℕ, Bool, Some, IfErr, IfOk, IfSome, IfNone};
+    ghost use Rattle.std.specs.Prelude.{◌≡◌, [], ℕ, Bool, List, Some, IfErr, IfOk, IfSome, IfNone};
     ghost use Rattle.cddl_meaning.specs.Forms.{Alternatives, Choice};
     ghost use Rattle.cddl_meaning.specs.Ranks.Flags.{AreFlags};
     ghost use Rattle.cddl_meaning.specs.Ranks.Ranked.{IsRanked};
     ghost use Rattle.table_nodes.specs.Nodes.{group_view, language_in, type_view};
     ghost use Rattle.table_nodes.specs.Ranks.{flag_in, rank_in};
     ghost use Rattle.table_nodes.specs.Language.{language_of, rank_of, ranks_of, root_of, shown_of, told_of};
+    ghost use Rattle.table_nodes.specs.Indexes.{IsIndexOf};
     ghost use Rattle.table_nodes.specs.Majors.{TellsOf, told_view};
     ghost use Rattle.table_nodes.specs.declared.nodes.TypeId.{TypeId};
 
@@ -66,6 +71,7 @@ impl Table {
         } = ranks;
         let most = greatest(&type_ranks).max(greatest(&group_ranks));
         let told = Vec::new(*types.allocator());
+        let choices = Vec::new(*types.allocator());
         Ok(Table {
             types,
             groups,
@@ -74,6 +80,7 @@ impl Table {
             group_ranks,
             ranks: most,
             told,
+            choices,
         })
     }
 
@@ -93,6 +100,7 @@ impl Table {
             type_ranks,
             group_ranks,
             ranks,
+            choices,
             ..
         } = self;
         let told = told_of(alloc, &types)?;
@@ -104,6 +112,39 @@ impl Table {
             group_ranks,
             ranks,
             told,
+            choices,
+        })
+    }
+
+    /// The same table, in which the members of choices of many literals are looked up. It takes 16 bytes for each member of
+    /// such a choice, and time for each part of the types.
+    pub fn with_indexes(self, alloc: Global) -> Result<Table, AllocError>
+        ensures language { IfOk result (λ table. language_of table ≡ language_of self) }
+        ensures root { IfOk result (λ table. root_of table ≡ root_of self) }
+        ensures rank { IfOk result (λ table. rank_of table ≡ rank_of self) }
+        ensures ranks { IfOk result (λ table. ranks_of table ≡ ranks_of self) }
+        ensures told { IfOk result (λ table. (n : TypeId) (m : ℕ) → told_of table n m ≡ told_of self n m) }
+    {
+        let Table {
+            types,
+            groups,
+            root,
+            type_ranks,
+            group_ranks,
+            ranks,
+            told,
+            ..
+        } = self;
+        let choices = indexes_of(alloc, &types)?;
+        Ok(Table {
+            types,
+            groups,
+            root,
+            type_ranks,
+            group_ranks,
+            ranks,
+            told,
+            choices,
         })
     }
 
@@ -138,6 +179,17 @@ impl Table {
         ensures says { (t : Bool × ℕ) → told_view result ≡ Some t → TellsOf (language_of self.now) id major t.0 t.1 }
     {
         known_of(&self.told, id, major)
+    }
+
+    /// The index of the members of a choice, if one is kept: where 16 of them or more are whole numbers or strings.
+    #[inline]
+    pub fn index_of(&self, choice: TypeId, members: &[TypeId]) -> Option<&MemberIndex>
+        ensures { (language_of self.now).type_at choice ≡ Choice members.now → IfSome result (λ index. IsIndexOf (language_of self.now).type_at members.now index.now) }
+    {
+        if !may_have_index(members) {
+            return None;
+        }
+        index_at(&self.choices, choice)
     }
 
     /// The group of this number, if it is there.

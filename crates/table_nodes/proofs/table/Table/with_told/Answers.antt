@@ -5,5 +5,6 @@ pub invariant_of-result : goal.invariant_of-result
 invariant_of-result c = record {
   bound = c.args.self.bound;
   ranked = c.args.self.ranked;
+  indexed = c.args.self.indexed;
   shown = λ n m t e. sym (rw c.deref.ensures.value at c.in_ok-told.ensures n m) ∙ e;
 }
