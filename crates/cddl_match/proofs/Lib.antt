@@ -17,3 +17,4 @@ mod Running
 mod Needs
 mod Machines
 mod ByMajor
+mod Passed

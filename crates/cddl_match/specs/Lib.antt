@@ -6,3 +6,4 @@ pub mod Tellings
 pub mod Open
 pub mod Machine
 pub mod Progress
+pub mod Choosing

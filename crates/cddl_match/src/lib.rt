@@ -4,6 +4,7 @@
 mod answers;
 mod behind;
 mod calls;
+mod choosing;
 mod deeper;
 mod entering;
 mod judging;

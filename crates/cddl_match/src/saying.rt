@@ -4,11 +4,11 @@ ghost use Rattle.std.specs.Prelude.{ℕ, IfSome, List, Some};
 ghost use Rattle.cbor_data.specs.Value.{Pairs};
 ghost use Rattle.item_nodes.specs.View.{pairs_view, view};
 ghost use Rattle.cddl_meaning.specs.Forms as F;
-ghost use Rattle.cddl_meaning.specs.Forms.{bytes_in, members_in, simple_in};
 ghost use Rattle.cddl_meaning.specs.Judges as J;
 ghost use Rattle.cddl_meaning.specs.Moves as M;
 ghost use Rattle.match_tests.specs.Places.{IsIndexOf};
 ghost use Rattle.match_moves.specs.Views.{parts_move, rounds_move, values};
+ghost use Rattle.cddl_match.specs.Choosing.{IsAsking, left_of};
 ghost use Rattle.cddl_match.specs.Tellings.{IsTallied, KeySays, Meets, Sorts, Tallies};
 ghost use Rattle.cddl_match.specs.Within.{Ends, Says, done_view, said_view};
 ghost use Rattle.table_nodes.specs.Language.{language_of};
@@ -17,6 +17,7 @@ ghost use Rattle.table_nodes.specs.declared.nodes.TypeId.{TypeId};
 
 use crate::behind::{group_behind, type_behind};
 use crate::calls::{Said, Stop};
+use crate::choosing::Members;
 use crate::deeper::{replied_by_turns, type_by_turns};
 use crate::entering::{index_for, unpassed, work_for};
 use crate::known::{counted_for, said_in, told_of};
@@ -84,7 +85,10 @@ fn type_says_here<'i>(
             let said = tested(test, place, item);
             counted_for(&mut means.shelf.allowance, place, said)
         }
-        Node::Choice(members) => choice_says(table, means, members, place, item, depth - 1),
+        Node::Choice(members) => {
+            let members = Members::of(table, behind.node, members, item);
+            choice_says(table, means, members, place, item, depth - 1)
+        }
         _ => form_says(table, means, form, place, item, depth - 1),
     }
 }
@@ -121,7 +125,7 @@ fn form_says<'i>(
     match form {
         Node::Plain(test) => tested(test, place, item),
         Node::Ref(to) => type_says(table, means, *to, place, item, depth),
-        Node::Choice(members) => choice_says(table, means, members, place, item, depth),
+        Node::Choice(all) => choice_says(table, means, Members::all(all), place, item, depth),
         Node::ArrayOf(group) => array_says(table, means, *group, place, item, depth),
         Node::TagOf(number, node) => match item {
             Item::Tag(found, content) => {
@@ -151,23 +155,23 @@ fn form_says<'i>(
 fn choice_says<'i>(
     table: &Table,
     means: &mut Means<'i>,
-    members: &[TypeId],
+    members: Members<'_>,
     place: usize,
     item: &'i Item,
     depth: u8,
 ) -> Said
-    ensures { Ends (language_of table.now) (M.next_member members.now place (view item.now) place) means.old.left means.new.left (said_view result) }
+    requires { IsAsking (language_of table.now) (view item.now) members }
+    ensures { Ends (language_of table.now) (M.next_member (left_of members.entry) place (view item.now) place) means.old.left means.new.left (said_view result) }
 {
     let mut far = place;
     let mut left = members;
-    while let Some((member, others)) = left.split_first() {
-        match type_says_here(table, means, *member, place, item, depth) {
+    while let Some(member) = left.next(means) {
+        match type_says_here(table, means, member, place, item, depth) {
             Said::No { far: later } => far = far.max(later),
             said => return said,
         }
-        left = others;
     }
-    Said::No { far }
+    left.said(far)
 }
 
 // What an array says by what its group does with all of its items.
@@ -181,7 +185,7 @@ fn array_says<'i>(
     item: &'i Item,
     depth: u8,
 ) -> Said
-    ensures { Ends (language_of table.now) (M.array_move group place (members_in (view item.now))) means.old.left means.new.left (said_view result) }
+    ensures { Ends (language_of table.now) (M.array_move group place (F.members_in (view item.now))) means.old.left means.new.left (said_view result) }
 {
     match items_of(item) {
         Some(items) => {
@@ -202,7 +206,7 @@ fn simple_says(
     item: &Item,
     depth: u8,
 ) -> Said
-    ensures { Ends (language_of table.now) (M.simple_move head place (simple_in (view item.now))) means.old.left means.new.left (said_view result) }
+    ensures { Ends (language_of table.now) (M.simple_move head place (F.simple_in (view item.now))) means.old.left means.new.left (said_view result) }
 {
     match simple_of(item) {
         Some(number) => {
@@ -298,7 +302,7 @@ fn held_says(
     item: &Item,
     depth: u8,
 ) -> Said
-    ensures { Ends (language_of table.now) (M.read_move (content_view content) node place next (bytes_in (view item.now))) means.old.left means.new.left (said_view result) }
+    ensures { Ends (language_of table.now) (M.read_move (content_view content) node place next (F.bytes_in (view item.now))) means.old.left means.new.left (said_view result) }
 {
     let Some(bytes) = bytes_of(item) else {
         return Said::No { far: place };
@@ -325,10 +329,9 @@ fn apart_says(
     let alloc = means.shelf.alloc;
     let cells = Cells::new(alloc);
     let before = means.shelf.allowance;
-    let mut inner = Means {
-        left: means.left,
-        shelf: Shelf::with(alloc, &cells, before),
-    };
+    let left = means.left;
+    let shelf = Shelf::with(alloc, &cells, before);
+    let mut inner = Means { left, shelf };
     let said = type_says(table, &mut inner, node, place, &item, depth);
     means.left = inner.left;
     means.shelf.allowance = before.after(inner.shelf.allowance);

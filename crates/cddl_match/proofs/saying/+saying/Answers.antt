@@ -16,6 +16,8 @@ use Rattle.match_tests.specs.Places.{IsIndexOf}
 use Rattle.match_moves.specs.Views.{reply_view, rounds_move, tally_view, values}
 use Rattle.cddl_match.specs.Within.{Replied, Stopped, Says, done_view, said_view}
 use Rattle.item_nodes.proofs.Lemmas.{view-Uint}
+use Rattle.cddl_match.specs.Choosing.{left_of}
+use Rattle.cddl_match.proofs.Passed.{choice_ends, member_asked}
 use Rattle.cddl_match.proofs.Outcomes.{answered, begins, ends_on, passes_on, says_on, took, asks}
 use Rattle.cddl_match.proofs.Passing.{lent}
 use Rattle.cddl_match.proofs.Sayings.{has_said, type_on, type_few, group_on, group_few, no_passes, yes_passes, array_ends, simple_ends, meant_ends, held_ends, nothing_held, entry_ends, goes_on, ends_so, stops, round_stops}
@@ -46,7 +48,7 @@ type_says_here-returns-else-not-may_test-2 t c =
     c.counted_for-in-Plain.ensures (language_of c.args.table.now) (M.OfType c.args.node c.args.place (view c.args.item.now)) c.args.means.now.left c.in-Some.left said
 
 pub type_says_here-returns-in-Choice : goal.type_says_here-returns-in-Choice
-type_says_here-returns-in-Choice t c = type_on (language_of c.args.table.now) c.args.place (view c.args.item.now) c.args.means.now.left c.in-Some.left c.choice_says.new.means.left (said_view c.choice_says.result) c.type_behind-behind.ensures.passed (omega (arith, c.ranges.place.fits)) (rw c.in-Some-form.is at c.type_behind-behind.ensures.form ∙ ap type_view c.in-Choice.is) (omega (arith, c.in-Some.ensures, c.from.ensures)) (rw c.deref.ensures.value at c.choice_says.ensures)
+type_says_here-returns-in-Choice t c = type_on (language_of c.args.table.now) c.args.place (view c.args.item.now) c.args.means.now.left c.in-Some.left c.choice_says.new.means.left (said_view c.choice_says.result) c.type_behind-behind.ensures.passed (omega (arith, c.ranges.place.fits)) (rw c.in-Some-form.is at c.type_behind-behind.ensures.form ∙ ap type_view c.in-Choice.is) (omega (arith, c.in-Some.ensures, c.from.ensures)) (rw (c.of-members.ensures.left, c.deref.ensures.value) at c.choice_says.ensures)
 
 pub type_says_here-returns-in_default-form-2 : goal.type_says_here-returns-in_default-form-2
 type_says_here-returns-in_default-form-2 t c = type_on (language_of c.args.table.now) c.args.place (view c.args.item.now) c.args.means.now.left c.in-Some.left c.form_says.new.means.left (said_view c.form_says.result) c.type_behind-behind.ensures.passed (omega (arith, c.ranges.place.fits)) (rw c.in-Some-form.is at c.type_behind-behind.ensures.form) (omega (arith, c.in-Some.ensures, c.from.ensures)) c.form_says.ensures
@@ -90,21 +92,51 @@ holding_says-returns-in-Yes t c = asks (language_of c.args.table.now) c.args.mea
 pub holding_says-returns-in_default : goal.holding_says-returns-in_default
 holding_says-returns-in_default t c = no_passes (language_of c.args.table.now) (M.OfType c.args.of c.args.place (view c.args.item.now)) c.args.means.now.left c.type_says.new.means.left (M.InHolder (content_view c.args.content) c.args.node c.args.place (view c.args.item.now)) c.type_says.result (λ far. refl) c.in_default.not-Yes c.type_says.ensures
 
+pub choice_says-loop-member-init : goal.choice_says-loop-member-init
+choice_says-loop-member-init t c = record {
+  within = omega arith;
+  shown = omega arith;
+  asking = c.requires;
+  comes = begins (language_of c.args.table.now) _ c.args.means.now.left;
+}
+
 pub choice_says-returns-in_default-type_says_here : goal.choice_says-returns-in_default-type_says_here
 choice_says-returns-in_default-type_says_here t c =
     let l = language_of c.args.table.now in
-    let here = rw c.in-Some.ensures.cases.0 at c.loop-member.invariant.comes in
-    ends_so l c.args.means.now.left c.loop-member.means.left c.type_says_here.new.means.left (said_view c.type_says_here.result) here c.loop-member.invariant.within (yes_passes l (M.OfType c.in-Some.member.now c.args.place (view c.args.item.now)) c.loop-member.means.left c.type_says_here.new.means.left (M.InChoice c.in-Some.others.now c.args.place (view c.args.item.now) c.loop-member.far) c.type_says_here.result (λ next. refl) c.in_default-type_says_here.not-No c.type_says_here.ensures)
+    let kept = c.loop-member.invariant in
+    let asked = rw c.in-Some.is at (c.next.ensures l (view c.args.item.now) c.args.place c.loop-member.far kept.asking kept.shown) in
+    let here = member_asked l (view c.args.item.now) c.args.place c.loop-member.far c.loop-member.left c.next.new.self c.args.means.now.left c.loop-member.means.left c.next.new.means.left kept.comes kept.within asked in
+    ends_so l c.args.means.now.left c.next.new.means.left c.type_says_here.new.means.left (said_view c.type_says_here.result) here.0 here.1 (yes_passes l (M.OfType c.in-Some.member c.args.place (view c.args.item.now)) c.next.new.means.left c.type_says_here.new.means.left (M.InChoice (left_of c.next.new.self) c.args.place (view c.args.item.now) c.loop-member.far) c.type_says_here.result (λ next. refl) c.in_default-type_says_here.not-No c.type_says_here.ensures)
 
 pub choice_says-loop-member-preserved : goal.choice_says-loop-member-preserved
 choice_says-loop-member-preserved t c =
     let l = language_of c.args.table.now in
-    let here = rw c.in-Some.ensures.cases.0 at c.loop-member.invariant.comes in
+    let kept = c.loop-member.invariant in
+    let asked = rw c.in-Some.is at (c.next.ensures l (view c.args.item.now) c.args.place c.loop-member.far kept.asking kept.shown) in
+    let here = member_asked l (view c.args.item.now) c.args.place c.loop-member.far c.loop-member.left c.next.new.self c.args.means.now.left c.loop-member.means.left c.next.new.means.left kept.comes kept.within asked in
     let e : c.max-far.result ≡ max c.loop-member.far c.in-No.later = omega (arith, c.max-far.ensures) in
     record {
-      within = omega (arith, c.loop-member.invariant.within, c.in-No.ensures.1);
-      comes = rw e (goes_on l (M.InChoice c.in-Some.others.now c.args.place (view c.args.item.now) c.loop-member.far) c.args.means.now.left c.loop-member.means.left c.type_says_here.new.means.left here c.loop-member.invariant.within c.in-No.ensures);
+      within = omega (arith, here.1, c.in-No.ensures.1);
+      shown = omega (arith, kept.shown, e);
+      asking = asked.0;
+      comes = rw e (goes_on l (M.InChoice (left_of c.next.new.self) c.args.place (view c.args.item.now) c.loop-member.far) c.args.means.now.left c.next.new.means.left c.type_says_here.new.means.left here.0 here.1 c.in-No.ensures);
     }
+
+pub choice_says-loop-member-smaller : goal.choice_says-loop-member-smaller
+choice_says-loop-member-smaller t c =
+    let kept = c.loop-member.invariant in
+    let asked = rw c.in-Some.is at (c.next.ensures (language_of c.args.table.now) (view c.args.item.now) c.args.place c.loop-member.far kept.asking kept.shown) in
+    asked.1.0
+
+pub form_says-choice_says-requires : goal.form_says-choice_says-requires
+form_says-choice_says-requires t c = (omega arith, c.all.ensures.asking (language_of c.args.table.now) (view c.args.item.now))
+
+pub choice_says-returns : goal.choice_says-returns
+choice_says-returns t c =
+    let l = language_of c.args.table.now in
+    let kept = c.loop-member.invariant in
+    let ended = rw c.in_default.is at (c.next.ensures l (view c.args.item.now) c.args.place c.loop-member.far kept.asking kept.shown) in
+    rw c.said.ensures (choice_ends l (view c.args.item.now) c.args.place c.loop-member.far c.loop-member.left c.next.new.self c.args.means.now.left c.loop-member.means.left c.next.new.means.left kept.comes kept.within ended c.next.new.self.spent refl)
 
 pub tag_says-returns-in-Any : goal.tag_says-returns-in-Any
 tag_says-returns-in-Any t c = rw c.in-Any.is (passes_on (language_of c.args.table.now) (M.OfType c.args.node (M.plus c.args.place 1) (view c.args.content.now)) c.args.means.now.left c.type_says.new.means.left (said_view c.type_says.result) (rw c.plus-after.ensures at c.type_says.ensures))

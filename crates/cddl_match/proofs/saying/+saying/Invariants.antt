@@ -6,6 +6,7 @@ use Rattle.cddl_meaning.specs.Moves as M
 use Rattle.table_nodes.specs.Language.{language_of}
 use Rattle.table_nodes.specs.Nodes.{alternatives_view, entries_view}
 use Rattle.cddl_match.specs.Ahead.{ComesTo}
+use Rattle.cddl_match.specs.Choosing.{IsAsking, left_of}
 use Rattle.cddl_match.specs.Tellings.{AreTold, HandsOn, IsTallied}
 use Rattle.match_moves.specs.Views.{parts_move, rounds_move, tally_view, values}
 use Rattle.cddl_match.specs.Within.{Replied, said_view}
@@ -16,7 +17,9 @@ use Rattle.cddl_match.proofs.saying.+saying.Given as goal
 abbrev pub invariant-choice_says-loop-member : goal.invariant-choice_says-loop-member
 invariant-choice_says-loop-member l = record {
   within : l.means.left ≤ l.fn.means.left;
-  comes : ComesTo (language_of l.fn.table) (M.next_member l.fn.members l.fn.place (view l.fn.item) l.fn.place) (M.next_member l.left l.fn.place (view l.fn.item) l.far) (l.fn.means.left - l.means.left);
+  shown : l.fn.place ≤ l.far;
+  asking : IsAsking (language_of l.fn.table) (view l.fn.item) l.left;
+  comes : ComesTo (language_of l.fn.table) (M.next_member (left_of l.fn.members) l.fn.place (view l.fn.item) l.fn.place) (M.next_member (left_of l.left) l.fn.place (view l.fn.item) l.far) (l.fn.means.left - l.means.left);
 }
 
 abbrev pub invariant-map_says-loop-entries : goal.invariant-map_says-loop-entries
@@ -65,7 +68,7 @@ invariant-rounds_do-loop-group l = record {
 }
 
 abbrev pub decreases-choice_says-loop-member : goal.decreases-choice_says-loop-member
-decreases-choice_says-loop-member l = length l.left
+decreases-choice_says-loop-member l = length (left_of l.left)
 
 abbrev pub decreases-map_says-loop-entries : goal.decreases-map_says-loop-entries
 decreases-map_says-loop-entries l = length l.left
