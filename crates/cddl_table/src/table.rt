@@ -138,7 +138,8 @@ fn ranked_table(
 {
     match Table::new(types, groups, root, ranks) {
         Ok(table) => {
-            let table = table.with_told(alloc)?;
+            let told = table.with_told(alloc)?;
+            let table = told.with_indexes(alloc)?;
             table.ranks();
             Ok(table)
         }
