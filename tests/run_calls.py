@@ -34,7 +34,7 @@ These are the words:
 
 A table of match.types, match.groups and match.ranks is made of words, whose numbers name other words of the same list:
 
-  any, major:0, text:a, bytes:61, closed:1:5 (1..5), open:1:5 (1...5), ref:2, choice:1,2, array:GROUP, tag:NUMBER:CONTENT, simple:1, both:1:2,
+  any, major:0, is:5, is:n5 (-6), text:a, bytes:61, closed:1:5 (1..5), open:1:5 (1...5), ref:2, choice:1,2, array:GROUP, tag:NUMBER:CONTENT, simple:1, both:1:2,
   one:1:2 and sequence:1:2 (.cbor and .cborseq), such:1:TEST with ne:5, lt:n5 (-6), le, gt, ge, size:1..2,4..4 or
   bits:0,2..3;
   map:ALTERNATIVE/.., each '-' or entries with commas, as 0*any:1=2, or 1*1:1^2 where the key cuts; and groups entry:TYPE,
@@ -94,6 +94,7 @@ A row whose call begins with '@' stands for many:
   @assigns HEX                 how many '=' are among the tokens of a source
   @judge ROOT HEX              what a type says of an item, by calls and by turns, with few questions open
   @steps ROOT HEX              in how many steps it says so: in one fewer it does not
+  @choices SEED COUNT          what random choices of literals say, in exactly so many steps as there are members up to the answer
   @open ROOT STEPS ROOM HEX N  what it says by turns, with more than N questions open
   @run ROOT SIZES HEX KNOWN    the items, the end in short and its line, in pieces of these or of all sizes, by all calls of
                                sessions and by a run; the end is known after so many bytes, or at the end
@@ -434,6 +435,40 @@ def steps_case(row, root, word, answer):
     return Case(row, lines, fault)
 
 
+# The literals of random choices, each with its item: numbers, and texts and byte strings of the same bytes; and what is no
+# literal, with the first bytes of the items to which that says yes.
+LITERALS = ([(f"is:{n}", f"{n:02x}") for n in range(20)] + [(f"is:n{n}", f"{32 + n:02x}") for n in range(20)]
+            + [(f"text:{chr(n)}", f"61{n:02x}") for n in range(97, 112)] + [(f"bytes:{n:02x}", f"41{n:02x}") for n in range(97, 112)])
+OTHERS = [("major:0", range(0, 32)), ("major:3", range(0x60, 0x80)), ("closed:3:5", range(3, 6)), ("major:7", range(0xe0, 0x100))]
+
+
+def choices_cases(row, seed, count):
+    """What random choices of literals and of a few other tests say of random items, and in how many steps: one, and one for
+    each member that is asked in order."""
+    chance = Chance(int(seed))
+    for _ in range(int(count)):
+        members = [chance.draw() % (len(LITERALS) + chance.draw() % 2 * len(OTHERS)) for _ in range(chance.draw() % 60)]
+        words = [(LITERALS + OTHERS)[member] for member in members]
+        item = (LITERALS + [("", "f4"), ("", "80"), ("", "617a")])[chance.draw() % (len(LITERALS) + 3)][1]
+        says = [held == item if isinstance(held, str) else int(item[:2], 16) in held for _, held in words]
+        steps = 1 + (1 + says.index(True) if any(says) else len(says))
+        types = " ".join([f"choice:{','.join(str(n + 1) for n in range(len(words)))}"] + [word for word, _ in words])
+        yield choice_case(row, types, len(words), item, "Yes" if any(says) else "No at 0", steps)
+
+
+def choice_case(row, types, count, item, answer, steps):
+    lines = [f"match.types {types}", "match.groups ", f"match.ranks {','.join(['1'] + ['0'] * count)} - -"]
+    lines += [f"match.{call} {item}" for allowed in (steps, steps - 1)
+              for call in (f"verdict 0 {allowed}", f"turns 0 {allowed} 16")]
+
+    def fault(answers):
+        said, by_turns, fewer, fewer_by_turns = answers[3:]
+        told = TURNS.fullmatch(by_turns)
+        same = said == answer and told and told[1] == answer and int(told[3]) == steps
+        return None if same and fewer == "Spent" and fewer_by_turns.startswith("Spent, ") else f"{types}: {item}: {answers[3:]}"
+    return Case(row, lines, fault)
+
+
 def open_case(row, words, answer):
     def fault(answers):
         told = TURNS.fullmatch(answers[0])
@@ -694,6 +729,7 @@ FAMILIES = {
     "@assigns": lambda row, words, answer, before: [assigns_case(row, words[0], answer)],
     "@judge": lambda row, words, answer, before: [judge_case(row, *words, answer)],
     "@steps": lambda row, words, answer, before: [steps_case(row, *words, answer)],
+    "@choices": lambda row, words, answer, before: choices_cases(row, *words),
     "@open": lambda row, words, answer, before: [open_case(row, words, answer)],
     "@run": lambda row, words, answer, before: run_cases(row, *words, answer),
     "@report": lambda row, words, answer, before: [report_case(row, *words)],

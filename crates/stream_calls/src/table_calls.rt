@@ -56,7 +56,10 @@ impl Tables {
         let groups = groups_of(self.alloc, self.groups.as_str())?;
         let types = types_of(self.alloc, self.types.as_str())?;
         match Table::new(types, groups, type_id(root), ranks) {
-            Ok(table) => Ok(Some(Box::new(self.alloc, table.with_told(self.alloc)?)?)),
+            Ok(table) => {
+                let table = table.with_told(self.alloc)?.with_indexes(self.alloc)?;
+                Ok(Some(Box::new(self.alloc, table)?))
+            }
             Err(_) => Ok(None),
         }
     }

@@ -40,6 +40,13 @@ fn whole(word: &str) -> Whole {
     }
 }
 
+fn whole_item(word: &str) -> Item {
+    match whole(word) {
+        Whole::Uint(number) => Item::Uint(number),
+        Whole::Nint(number) => Item::Nint(number),
+    }
+}
+
 fn type_ids(alloc: Global, words: &str) -> Result<Vec<TypeId>, AllocError> {
     let mut ids = Vec::new(alloc);
     for word in words.split(',') {
@@ -107,6 +114,7 @@ fn test_of(alloc: Global, form: &str, told: &str) -> Result<Test, AllocError> {
         "open" => between(told, false),
         "text" => Test::Equals(Item::Text(String::from_str(alloc, told)?)),
         "bytes" => Test::Equals(Item::Bytes(bytes(alloc, told)?)),
+        "is" => Test::Equals(whole_item(told)),
         "ne" => Test::Differs(Item::Uint(number(told))),
         "lt" => Test::Less(whole(told)),
         "le" => Test::AtMost(whole(told)),
