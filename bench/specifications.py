@@ -14,7 +14,8 @@ the least processor time of the one to that of the other is printed. So is that 
 that none of them has to that against two. Then it reads streams of maps with 100,000 and with 200,000 pairs in the same
 way as the arrays. The columns: that ratio for the larger maps, the growth of the processor time, and the peak memory for
 each pair of a map, with the specification and with 'any'. Maps whose keys are literals of the specification are read so,
-too, by 1,000 pairs against 1,000 keys, and by 10,000 and 20,000 pairs against 16,383.
+too, by 1,000 pairs against 1,000 keys, and by 10,000 and 20,000 pairs against 16,383. Numbers and texts, each one of a choice
+of 1,000, are read against that, and as many that are all the same against this one.
 
 A stream of messages with one signature, whose protected headers are in a byte string, is read against the
 specification in examples/cose_sign1.cddl and against 'any', as the arrays are. The last streams are byte strings of two
@@ -25,7 +26,8 @@ is read in it, against 'any'; the growth of the processor time; and the peak mem
 The status is 1 where a specification is not answered as expected, where its growth or that for a byte string is
 outside 1.4 to 2.8, where the ratio for arrays is over 1.3 or one for sizes, maps or messages over 2, where the growth for
 maps is outside 1.4 to 3.4 (more keys than the processor's caches hold take longer each), or where the specification
-takes over 64 bytes for a pair more than 'any'. So it is where the ratio for literal keys is over 3, or their growth over 3.4.
+takes over 64 bytes for a pair more than 'any'. So it is where the ratio for literal keys is over 3, or their growth over 3.4; and where
+that for a choice of literals is over 2.
 """
 import argparse
 import os
@@ -47,6 +49,7 @@ MAPS_AT_A_TIME = 4
 MOST_MAP_RATIO, MOST_MAP_GROWTH, MOST_BYTES_A_PAIR = 2, 3.4, 64
 KEYS, MAPS_OF_KEYS, MOST_KEYS_RATIO = 1000, 1000, 3
 MOST_KEYS, PAIRS_OF_KEYS = 16_383, (10_000, 20_000)
+LITERALS, LISTS_OF_LITERALS, MOST_LITERALS_RATIO = 1000, 1000, 2
 COSE = os.path.join(os.path.dirname(os.path.dirname(os.path.abspath(__file__))), "examples", "cose_sign1.cddl")
 MOST_COSE_RATIO = 2
 LEVELS = 100
@@ -285,6 +288,24 @@ def literal_keys(program, folder):
     return ratio > MOST_KEYS_RATIO or growth > MOST_MAP_GROWTH
 
 
+def literals(program, folder):
+    """Each of 1,000 literals in an array, in no order, against a choice of them; and one of them as often, against that one."""
+    bad = False
+    for kind, literal, written_as in (("numbers", lambda n: 1000 + n, str), ("texts", "name{:03}".format, '"{}"'.format)):
+        members = [literal(n) for n in range(LITERALS)]
+        times = {}
+        for count, chosen in ((LITERALS, members), (1, members[LITERALS // 2:][:1])):
+            array = b"".join(encoded(chosen[617 * n % count]) for n in range(LITERALS))
+            path = written(folder, f"{kind}{count}.cborseq", (head(4, LITERALS) + array) * LISTS_OF_LITERALS)
+            text = "r = [* m]\nm = " + " / ".join(map(written_as, chosen)) + "\n"
+            found, = least_times(program, {count: written(folder, f"{kind}{count}.cddl", text)}, [path])
+            times.update(found)
+        ratio = times[LITERALS] / times[1]
+        print(f"\n{kind} against a choice of {LITERALS}: {ratio:.2f} times one literal")
+        bad = bad or ratio > MOST_LITERALS_RATIO
+    return bad
+
+
 def signed_message(number):
     """A COSE_Sign1 with its tag: protected headers, a key identifier, a payload of 20 bytes, and any signature."""
     signature = bytes((number + k) % 256 for k in range(64))
@@ -356,7 +377,7 @@ def main():
     words.add_argument("program")
     program = os.path.abspath(words.parse_args().program)
     with tempfile.TemporaryDirectory() as folder:
-        bad = [it(program, folder) for it in (check_all, arrays, sizes, maps, literal_keys, signed_messages, byte_strings)]
+        bad = [it(program, folder) for it in (check_all, arrays, sizes, maps, literal_keys, literals, signed_messages, byte_strings)]
     return 1 if any(bad) else 0
 
 
