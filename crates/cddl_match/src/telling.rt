@@ -13,6 +13,9 @@ use table_nodes::{Node, Table, TypeId};
 /// Choices in choices are looked into so deep, so that few tests are made in vain where something else is in them.
 pub(crate) const DEEPEST: u8 = 3;
 
+// Choices of so many types are not looked into: a table may have an index of them, by which few are asked.
+const MANY: usize = 16;
+
 // Whether a type of this form says yes, and how many questions that takes after the first, if not over `most`. Choices are
 // looked into as deep as this.
 #[inline(always)]
@@ -28,7 +31,9 @@ pub(crate) fn form_tells(
 {
     match form {
         Node::Plain(test) => Some((passes_test(test, subject), 0)),
-        Node::Choice(members) if depth > 0 => one_tells(table, members, subject, depth - 1, most),
+        Node::Choice(members) if depth > 0 && members.len() < MANY => {
+            one_tells(table, members, subject, depth - 1, most)
+        }
         _ => None,
     }
 }
