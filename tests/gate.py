@@ -26,6 +26,7 @@ from concurrent.futures import ThreadPoolExecutor
 from contextlib import redirect_stdout
 
 import random_cuts
+import random_maps
 import random_orders
 import recognizer
 from processor_time import time_of_processes, told
@@ -155,6 +156,7 @@ PARTS = (
     ("rows on the built program", lambda: run_rows(PROGRAM)),
     ("rows of public calls", run_calls),
     ("random items whose pairs are in two orders", lambda: random_orders.compare(PROGRAM)),
+    ("random maps with an index of their entries and without", lambda: random_maps.compare(PROGRAM)),
     ("rows of the grammar", lambda: run_grammar(OUTLINE)),
     ("comparisons with a plain recognizer", lambda: recognizer.compare(OUTLINE)),
     ("comparisons of the man page with the program's help", lambda: (1, 0) if is_page_right(PROGRAM) else (0, 1)),

@@ -8,8 +8,8 @@ use Rattle.cddl_meaning.specs.Judges.{Reply, Fails}
 use Rattle.cddl_meaning.specs.Moves.{Answered, Asks, InChoice, LeadsTo, Move, OfType, next_member, test_reply, type_move}
 use Rattle.table_nodes.proofs.Lemmas.{as_many, passed}
 use Rattle.table_nodes.specs.Indexes.{AreNext, IsIndexOf, IsOther, first_of}
-use Rattle.table_nodes.specs.declared.choices.Candidates.{Candidates}
-use Rattle.table_nodes.specs.declared.choices.MemberIndex.{MemberIndex}
+use Rattle.table_nodes.specs.declared.indexes.Candidates.{Candidates}
+use Rattle.table_nodes.specs.declared.indexes.LiteralIndex.{LiteralIndex}
 use Rattle.table_nodes.specs.declared.nodes.GroupId.{GroupId}
 use Rattle.table_nodes.specs.declared.nodes.TypeId.{TypeId}
 use Rattle.cddl_match.specs.Ahead.{ComesTo, Opens}
@@ -22,26 +22,29 @@ use Rattle.cddl_match.proofs.Ways.{and_on, answers, opens, stays}
 
 module _ (l : Language TypeId GroupId) (x : Value) where
   -- what an index says of the next members
-  abbrev IsLed : List TypeId → ℕ → Option (Bor MemberIndex × Candidates) → Type 0
+  abbrev IsLed : List TypeId → ℕ → Option (Bor LiteralIndex × Candidates) → Type 0
   IsLed ms from o = IfSome o (λ i. IsIndexOf l.type_at ms i.0.now × AreNext l.type_at ms x from i.1)
 
   -- The next one is not before those that are left, and not past their end.
-  pub on : (ms : List TypeId) (from : ℕ) (o : Option (Bor MemberIndex × Candidates)) → from ≤ length ms → IsLed ms from o → (from ≤ first_at o from) × (first_at o from ≤ length ms)
+  pub on : (ms : List TypeId) (from : ℕ) (o : Option (Bor LiteralIndex × Candidates)) → from ≤ length ms → IsLed ms from o → (from ≤ first_at o from) × (first_at o from ≤ length ms)
   on ms from None h led = (omega arith, h)
   on ms from (Some i) h led = (omega (arith, led.1.0.0, led.1.1.0), omega (arith, led.1.0.1.0, as_many l.type_at ms))
 
-  pub others : (ms : List TypeId) (from : ℕ) (o : Option (Bor MemberIndex × Candidates)) → IsLed ms from o → (i : ℕ) (m : TypeId) → from ≤ i → i < first_at o from → slice_get ms i ≡ Some m → IsOther (l.type_at m) x
+  pub others : (ms : List TypeId) (from : ℕ) (o : Option (Bor LiteralIndex × Candidates)) → IsLed ms from o → (i : ℕ) (m : TypeId) → from ≤ i → i < first_at o from → slice_get ms i ≡ Some m → IsOther (l.type_at m) x
   others ms from None led i m a b e = absurd (omega (arith, a, b))
   others ms from (Some c) led i m a b e = passed l.type_at ms x from c.1 led.1 i m a b e
 
   -- An index leads on, or there is none.
-  pub led_on : (ms : List TypeId) (from next : ℕ) (o q : Option (Bor MemberIndex × Candidates)) (i : Bor MemberIndex) (c d : Candidates) → o ≡ Some (i, c) → q ≡ Some (i, d) → IsLed ms from o → next ≡ first_at o from → (IsIndexOf l.type_at ms i.now → AreNext l.type_at ms x from c → AreNext l.type_at ms x (suc (first_of c)) d) → IsLed ms (next + 1) q
+  pub led_on : (ms : List TypeId) (from next : ℕ) (o q : Option (Bor LiteralIndex × Candidates)) (i : Bor LiteralIndex) (c d : Candidates) → o ≡ Some (i, c) → q ≡ Some (i, d) → IsLed ms from o → next ≡ first_at o from → (IsIndexOf l.type_at ms i.now → AreNext l.type_at ms x from c → AreNext l.type_at ms x (suc (first_of c)) d) → IsLed ms (next + 1) q
   led_on ms from next o q i c d e f led is step =
       let here : IsIndexOf l.type_at ms i.now × AreNext l.type_at ms x from c = subst (IsLed ms from) e led in
       let one : suc (first_of c) ≡ next + 1 = omega (arith, is, ap (λ o. first_at o from) e) in
       subst (IsLed ms (next + 1)) (sym f) (here.0, subst (λ k. AreNext l.type_at ms x k d) one (step here.0 here.1))
 
-  pub not_led : (ms : List TypeId) (from : ℕ) (q : Option (Bor MemberIndex × Candidates)) → q ≡ None → IsLed ms from q
+  pub led_by : (ms : List TypeId) (from : ℕ) (q : Option (Bor LiteralIndex × Candidates)) (i : Bor LiteralIndex) (c : Candidates) → q ≡ Some (i, c) → IsIndexOf l.type_at ms i.now → AreNext l.type_at ms x from c → IsLed ms from q
+  led_by ms from q i c e is next = subst (IsLed ms from) (sym e) (is, next)
+
+  pub not_led : (ms : List TypeId) (from : ℕ) (q : Option (Bor LiteralIndex × Candidates)) → q ≡ None → IsLed ms from q
   not_led ms from q e = subst (IsLed ms from) (sym e) tt
 
   module _ (p far : ℕ) (shown : p ≤ far) where

@@ -1,14 +1,17 @@
 -- Which entries of an alternative a pair passes over.
-use Rattle.std.proofs.Common.{◌≡◌, ℕ, ◌+◌, ◌-◌, ◌<◌, ◌≤◌, Bor, List, [], ◌∷◌, ◌++◌, drop, length, slice_index_or, take, refl, sym, ap, subst, ◌∙◌, append_assoc, arith}
-use Rattle.std.specs.Prelude.{IfSome, None, Option, Some, option_copied, true}
+use Rattle.std.proofs.Common.{◌≡◌, ℕ, zero, suc, ◌+◌, ◌-◌, ◌<◌, ◌≤◌, List, [], ◌∷◌, ◌++◌, drop, length, slice_index_or, take, refl, sym, ap, subst, ◌∙◌, append_assoc, slice_get, Some, arith}
+use Rattle.std.specs.Prelude.{true}
 use Rattle.std.proofs.lemmas.List.Elements.{All-nil, All-push}
-use Rattle.std.proofs.lemmas.List.{get_or-drop, get_or-take, get_or_default, length-append, length-take-le, take-append-drop}
-use Rattle.std.proofs.Math.Seq.{drop-append-add, drop-append_seam}
+use Rattle.std.proofs.lemmas.List.{drop-drop, get_or-drop, get_or-take, get_or_default, length-drop, length-take-le, take-append-drop}
+use Rattle.lists.proofs.Lemmas.{indexed, there}
 use Rattle.cbor_data.specs.Value.{Value, Pairs, no_pairs, pair}
 use Rattle.cddl_meaning.specs.Forms.{Language, MapEntry, by_forms, is_passed_over}
 use Rattle.cddl_meaning.specs.Moves.{Sorting, Tally, next_entry, next_pair}
-use Rattle.match_tests.specs.Index.{IsNextAsked}
-use Rattle.cddl_match.specs.Entering.{ArePassed, IsAskedNext, IsFirstAsked, IsPassed}
+use Rattle.table_nodes.proofs.Lemmas.{as_many_entries, entries_passed}
+use Rattle.table_nodes.specs.Entries.{entry_buckets_in}
+use Rattle.table_nodes.specs.Indexes.{AreNextEntries, first_of}
+use Rattle.table_nodes.specs.declared.indexes.Candidates.{Candidates}
+use Rattle.cddl_match.specs.Entering.{AreLed, ArePassed, IsAskedNext, IsFirstAsked, IsPassed}
 
 module _ {N G : Type 0} (l : Language N G) where
   pub none_passed : (k : Value) (es : List (MapEntry N)) → ArePassed l k es es
@@ -41,19 +44,39 @@ module _ {N G : Type 0} (l : Language N G) where
         subst (λ x. is_passed_over l.counting x.key_type k ≡ true) (sym (get_or-take n es i d below)) (f i e below (get_or_default es i e d (omega (arith, below, h))));
   }
 
-  -- The entries before the next one that an index tells are passed over.
-  pub past_passed : (k : Value) (es first left : List (MapEntry N)) (next : ℕ) → es ≡ first ++ left → l.counting ≡ by_forms l.type_at → IsNextAsked l.type_at k es (length first) next → ArePassed l k left (drop next es)
-  past_passed k es first left next whole counted h =
-      let n = next - length first in
-      let there : next ≡ length first + n = omega (arith, h.on) in
-      let fits : n ≤ length left = omega (arith, there, h.within, ap length whole, length-append first left) in
-      let same : drop n left ≡ drop next es = sym (ap (λ xs. drop next xs) whole ∙ ap (λ m. drop m (first ++ left)) there ∙ drop-append-add first left n) in
-      subst (ArePassed l k left) same (first_passed k left n fits (λ i e b is. rw counted (h.passed (length first + i) e (omega arith) (omega (arith, there, b)) (at_place i e ∙ is))))
+  -- The entries before the next ones that an index tells are passed over.
+  past_next : (k : Value) (es : List (MapEntry N)) (from : ℕ) (c : Candidates) → l.counting ≡ by_forms l.type_at → from ≤ length es → AreNextEntries l.type_at es k from c → ArePassed l k (drop from es) (drop (first_of c) es)
+  past_next k es from c counted h next =
+      let n = first_of c - from in
+      let there : first_of c ≡ from + n = omega (arith, next.0.0, next.1.0) in
+      let fits : n ≤ length (drop from es) = omega (arith, there, length-drop from es, next.1.1.0, as_many_entries l.type_at es) in
+      let same : drop n (drop from es) ≡ drop (first_of c) es = drop-drop n from es ∙ ap (λ m. drop m es) (sym there) in
+      subst (ArePassed l k (drop from es)) same (first_passed k (drop from es) n fits (λ i e b is. subst (λ f. is_passed_over f e.key_type k ≡ true) (sym counted) (entries_passed l.type_at es k from c next (from + i) e (omega arith) (omega (arith, there, b)) (slice_get_read es (from + i) e (omega (arith, b, fits, length-drop from es, h)) (sym (get_or-drop from es i e) ∙ is)))))
     where
-      at_place : (i : ℕ) (e : MapEntry N) → slice_index_or es (length first + i) e ≡ slice_index_or left i e
-      at_place i e = sym (get_or-drop (length first) es i e) ∙ ap (λ xs. slice_index_or xs i e) (ap (λ xs. drop (length first) xs) whole ∙ drop-append_seam first left)
+      slice_get_read : (xs : List (MapEntry N)) (i : ℕ) (e : MapEntry N) → i < length xs → slice_index_or xs i e ≡ e → slice_get xs i ≡ Some e
+      slice_get_read xs i e h is = (there xs i h).1 ∙ ap Some (sym (indexed xs i (there xs i h).0 e (there xs i h).1) ∙ is)
 
--- What is so of a value that is there is so where it is lent.
-pub lent : {X : Type 0} (o : Option (Bor X)) (p : Option X) (P : X → Type 0) → option_copied o ≡ p → IfSome p P → IfSome o (λ x. P x.now)
-lent None p P e h = tt
-lent (Some x) p P e h = subst (λ q. IfSome q P) (sym e) h
+  -- What the first look at an index tells, and what each further one does.
+  pub begins_led : (k : Value) (es : List (MapEntry N)) (c : Candidates) → l.counting ≡ by_forms l.type_at → (length (entry_buckets_in l.type_at es) ≡ length es → AreNextEntries l.type_at es k 0 c) → AreLed l k es c × ArePassed l k es (drop (first_of c) es)
+  begins_led k es c counted f =
+      let next = f (as_many_entries l.type_at es) in
+      (record { from = 0; next = next }, past_next k es 0 c counted (omega arith) next)
+
+  pub goes_led : (k : Value) (es : List (MapEntry N)) (c d : Candidates) → l.counting ≡ by_forms l.type_at → AreLed l k es c → first_of c < length es → ((from : ℕ) → AreNextEntries l.type_at es k from c → first_of c < length (entry_buckets_in l.type_at es) → AreNextEntries l.type_at es k (suc (first_of c)) d) → AreLed l k es d × (ArePassed l k (drop (suc (first_of c)) es) (drop (first_of d) es) × first_of c < first_of d)
+  goes_led k es c d counted led inside f =
+      let next = f led.from led.next (omega (arith, inside, as_many_entries l.type_at es)) in
+      (record { from = suc (first_of c); next = next }, (past_next k es (suc (first_of c)) d counted (omega (arith, inside)) next, omega (arith, next.0.0, next.1.0)))
+
+-- what comes after the first one of those that are left
+pub after_first : {A : Type 0} (n : ℕ) (xs : List A) (x : A) (ys : List A) → drop n xs ≡ x ∷ ys → drop (suc n) xs ≡ ys
+after_first zero [] x ys e = absurd (cc)
+after_first (suc n) [] x ys e = absurd (cc)
+after_first zero (y ∷ xs) x ys e = ap tail_of e
+  where
+    tail_of : {A : Type 0} → List A → List A
+    tail_of [] = []
+    tail_of (z ∷ zs) = zs
+after_first (suc n) (y ∷ xs) x ys e = after_first n xs x ys e
+
+pub some_left : {A : Type 0} (n : ℕ) (xs : List A) (x : A) (ys : List A) → drop n xs ≡ x ∷ ys → n < length xs
+some_left n xs x ys e = omega (arith, length-drop n xs, ap length e)

@@ -10,8 +10,8 @@ use Rattle.cddl_match.specs.declared.calls.Said.{Said}
 use Rattle.cddl_match.specs.declared.calls.Said.TheVariants as S
 use Rattle.cddl_match.specs.declared.choosing.Members.{Members}
 use Rattle.table_nodes.specs.Indexes.{AreNext, IsIndexOf, first_of}
-use Rattle.table_nodes.specs.declared.choices.Candidates.{Candidates}
-use Rattle.table_nodes.specs.declared.choices.MemberIndex.{MemberIndex}
+use Rattle.table_nodes.specs.declared.indexes.Candidates.{Candidates}
+use Rattle.table_nodes.specs.declared.indexes.LiteralIndex.{LiteralIndex}
 use Rattle.table_nodes.specs.declared.nodes.GroupId.{GroupId}
 use Rattle.table_nodes.specs.declared.nodes.TypeId.{TypeId}
 
@@ -20,7 +20,7 @@ abbrev pub left_of : Members → List TypeId
 left_of m = drop m.from m.members.now
 
 -- the position of the next one that may say yes
-abbrev pub first_at : Option (Bor MemberIndex × Candidates) → ℕ → ℕ
+abbrev pub first_at : Option (Bor LiteralIndex × Candidates) → ℕ → ℕ
 first_at None from = from
 first_at (Some i) from = first_of i.1
 

@@ -1,13 +1,10 @@
 -- Which entries of an alternative a pair passes over, and which is asked about it first.
-use Rattle.std.specs.Prelude.{◌≡◌, List, [], ◌∷◌, ◌++◌, All, true, false}
+use Rattle.std.specs.Prelude.{◌≡◌, ℕ, List, [], ◌∷◌, ◌++◌, All, true, false}
 use Rattle.cbor_data.specs.Value.{Value}
 use Rattle.cddl_meaning.specs.Forms.{Language, MapEntry, is_passed_over}
 use Rattle.cddl_meaning.specs.Moves.{Move, Enters}
-
--- The entries that are left are the last ones.
-pub record EndIn {N : Type 0} (es left : List (MapEntry N)) : Type 0 where
-  pub first : List (MapEntry N)
-  pub whole : es ≡ first ++ left
+use Rattle.table_nodes.specs.Indexes.{AreNextEntries}
+use Rattle.table_nodes.specs.declared.indexes.Candidates.{Candidates}
 
 module _ {N G : Type 0} (l : Language N G) where
   -- a pair with this key passes over the entry
@@ -29,3 +26,8 @@ module _ {N G : Type 0} (l : Language N G) where
   abbrev pub IsAskedNext : Move N G → Type 0
   IsAskedNext (Enters e es s) = is_passed_over l.counting e.key_type s.key ≡ false
   IsAskedNext _ = Unit {0}
+
+  -- These are the next entries that may be asked about a pair with this key, by an index, from some position on.
+  pub record AreLed (k : Value) (es : List (MapEntry N)) (c : Candidates) : Type 0 where
+    pub from : ℕ
+    pub next : AreNextEntries l.type_at es k from c

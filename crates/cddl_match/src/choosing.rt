@@ -3,14 +3,14 @@
 use crate::calls::Said;
 use crate::means::Means;
 use item_nodes::Item;
-use table_nodes::{Candidates, MemberIndex, Table, TypeId};
+use table_nodes::{Candidates, LiteralIndex, Table, TypeId};
 
 /// The members of a choice that are left: all from a position on, or by an index those of them that may say yes.
 #[derive(Clone, Copy)]
 pub(crate) struct Members<'t> {
     members: &'t [TypeId],
     from: usize,
-    index: Option<(&'t MemberIndex, Candidates)>,
+    index: Option<(&'t LiteralIndex, Candidates)>,
     // Fewer steps are left than the members take that are passed over.
     spent: bool,
 }

@@ -1,16 +1,16 @@
 //! What types say of items and groups do with them, each question by a call of its own.
 
-ghost use Rattle.std.specs.Prelude.{ℕ, IfSome, List, Some};
+ghost use Rattle.std.specs.Prelude.{◌≡◌, ℕ, IfSome, List, Some};
 ghost use Rattle.cbor_data.specs.Value.{Pairs};
 ghost use Rattle.item_nodes.specs.View.{pairs_view, view};
 ghost use Rattle.cddl_meaning.specs.Forms as F;
 ghost use Rattle.cddl_meaning.specs.Judges as J;
 ghost use Rattle.cddl_meaning.specs.Moves as M;
-ghost use Rattle.match_tests.specs.Places.{IsIndexOf};
 ghost use Rattle.match_moves.specs.Views.{parts_move, rounds_move, values};
 ghost use Rattle.cddl_match.specs.Choosing.{IsAsking, left_of};
 ghost use Rattle.cddl_match.specs.Tellings.{IsTallied, KeySays, Meets, Sorts, Tallies};
 ghost use Rattle.cddl_match.specs.Within.{Ends, Says, done_view, said_view};
+ghost use Rattle.table_nodes.specs.Indexes.{IsEntryIndexOf};
 ghost use Rattle.table_nodes.specs.Language.{language_of};
 ghost use Rattle.table_nodes.specs.Nodes.{alternatives_view, content_view, entries_view, entry_view, group_view, tag_number_view, test_view, type_view};
 ghost use Rattle.table_nodes.specs.declared.nodes.TypeId.{TypeId};
@@ -19,7 +19,7 @@ use crate::behind::{group_behind, type_behind};
 use crate::calls::{Said, Stop};
 use crate::choosing::Members;
 use crate::deeper::{replied_by_turns, type_by_turns};
-use crate::entering::{index_for, unpassed, work_for};
+use crate::entering::{entries_from, work_for};
 use crate::known::{counted_for, said_in, told_of};
 use crate::looking::rounds_told;
 use crate::means::Means;
@@ -34,8 +34,10 @@ use match_moves::{
     Fate, Parts, Question, Reply, Round, Rounds, after_round, begin_tally, bytes_of,
     first_are_enough, is_over, items_of, pairs_of, place_after, plus, simple_of, tally_pair,
 };
-use match_tests::{KeyIndex, is_passed_over};
-use table_nodes::{Content, Group, GroupId, MapEntry, Node, Table, TagNumber, Test, Told, TypeId};
+use match_tests::is_passed_over;
+use table_nodes::{
+    Content, Group, GroupId, LiteralIndex, MapEntry, Node, Table, TagNumber, Test, Told, TypeId,
+};
 
 // What a type says of an item. Tests are asked where this is called, since most types that are asked in a loop are tests, or
 // names of them. Calls are as deep as this, and what is deeper is asked by turns.
@@ -89,7 +91,7 @@ fn type_says_here<'i>(
             let members = Members::of(table, behind.node, members, item);
             choice_says(table, means, members, place, item, depth - 1)
         }
-        _ => form_says(table, means, form, place, item, depth - 1),
+        _ => form_says(table, means, behind.node, form, place, item, depth - 1),
     }
 }
 
@@ -115,11 +117,13 @@ pub(crate) fn type_says<'i>(
 fn form_says<'i>(
     table: &Table,
     means: &mut Means<'i>,
+    node: TypeId,
     form: &Node,
     place: usize,
     item: &'i Item,
     depth: u8,
 ) -> Said
+    requires { (language_of table.now).type_at node ≡ type_view form.now }
     ensures { Ends (language_of table.now) (M.type_move (type_view form.now) place (view item.now)) means.old.left means.new.left (said_view result) }
 {
     match form {
@@ -135,7 +139,7 @@ fn form_says<'i>(
         },
         Node::SimpleBy(head) => simple_says(table, means, *head, place, item, depth),
         Node::MapOf(alternatives) => match pairs_of(item) {
-            Some(pairs) => map_says(table, means, alternatives, place, pairs, depth),
+            Some(pairs) => map_says(table, means, node, alternatives, place, pairs, depth),
             None => Said::No { far: place },
         },
         Node::Both(left, right) => match type_says(table, means, *left, place, item, depth) {
@@ -344,23 +348,33 @@ fn apart_says(
 fn map_says<'i>(
     table: &Table,
     means: &mut Means<'i>,
+    map: TypeId,
     alternatives: &[Vec<MapEntry>],
     base: usize,
     pairs: &'i [(Item, Item)],
     depth: u8,
 ) -> Said
+    requires { (language_of table.now).type_at map ≡ F.MapOf (alternatives_view alternatives.now) }
     ensures { Ends (language_of table.now) (M.next_way (alternatives_view alternatives.now) base (pairs_view pairs.now) (J.Fails base)) means.old.left means.new.left (said_view result) }
 {
     let mut tallied = nothing_tallied(means.shelf.alloc);
     let mut sofar = Said::No { far: base };
-    let mut left = alternatives;
-    while let Some((entries, others)) = left.split_first() {
-        match alternative_says(table, means, &mut tallied, entries, base, pairs, depth) {
+    for (way, entries) in alternatives.iter().enumerate() {
+        let index = table.entry_index_of(map, way, entries);
+        match alternative_says(
+            table,
+            means,
+            &mut tallied,
+            index,
+            entries,
+            base,
+            pairs,
+            depth,
+        ) {
             Said::Spent => return Said::Spent,
             Said::NoMemory => return Said::NoMemory,
             said => sofar = either_said(sofar, said),
         }
-        left = others;
     }
     sofar
 }
@@ -372,12 +386,14 @@ fn alternative_says<'t, 'i>(
     table: &Table,
     means: &mut Means<'i>,
     tallied: &mut Tallied<'t>,
+    index: Option<&LiteralIndex>,
     entries: &'t [MapEntry],
     base: usize,
     pairs: &'i [(Item, Item)],
     depth: u8,
 ) -> Said
-    requires { IsTallied (language_of table.now) base (pairs_view pairs.now) tallied.old }
+    requires known { IsTallied (language_of table.now) base (pairs_view pairs.now) tallied.old }
+    requires index { IfSome index (λ i. IsEntryIndexOf (language_of table.now).type_at (entries_view entries.now) i.now) }
     ensures says { Says (language_of table.now) (M.OfAlternative (entries_view entries.now) base (pairs_view pairs.now)) means.old.left means.new.left (said_view result) }
     ensures known { IsTallied (language_of table.now) base (pairs_view pairs.now) tallied.new }
 {
@@ -392,7 +408,7 @@ fn alternative_says<'t, 'i>(
         return Said::Spent;
     };
     means.left = left;
-    match tally_pairs(table, means, tallied, entries, base, pairs, depth) {
+    match tally_pairs(table, means, tallied, index, entries, base, pairs, depth) {
         Ok(()) => tallied.says(table, base, pairs),
         Err(Stop::Spent) => Said::Spent,
         Err(Stop::NoMemory) => Said::NoMemory,
@@ -405,11 +421,13 @@ fn tally_pairs<'t, 'i>(
     table: &Table,
     means: &mut Means<'i>,
     tallied: &mut Tallied<'t>,
+    index: Option<&LiteralIndex>,
     entries: &'t [MapEntry],
     base: usize,
     pairs: &'i [(Item, Item)],
     depth: u8,
 ) -> Result<(), Stop>
+    requires { IfSome index (λ i. IsEntryIndexOf (language_of table.now).type_at (entries_view entries.now) i.now) }
     ensures comes { Tallies (language_of table.now) (entries_view entries.now) base (pairs_view pairs.now) means.old.left means.new.left tallied.new result }
     ensures known { IsTallied (language_of table.now) base (pairs_view pairs.now) tallied.new }
 {
@@ -417,8 +435,6 @@ fn tally_pairs<'t, 'i>(
     let Ok(()) = begin_tally(&mut tallied.tally, entries) else {
         return Err(Stop::NoMemory);
     };
-    let index = index_for(means.shelf.alloc, table, entries, pairs.len());
-    let index = index.as_ref();
     if !means
         .shelf
         .allowance
@@ -523,13 +539,13 @@ fn entry_meets<'i>(
 fn pair_fate<'i>(
     table: &Table,
     means: &mut Means<'i>,
-    index: Option<&KeyIndex<'_>>,
+    index: Option<&LiteralIndex>,
     entries: &[MapEntry],
     pair: &'i (Item, Item),
     place: usize,
     depth: u8,
 ) -> Result<Fate, Stop>
-    requires { IfSome index (λ i. IsIndexOf (language_of table.now).type_at (entries_view entries.now) i.now) }
+    requires { IfSome index (λ i. IsEntryIndexOf (language_of table.now).type_at (entries_view entries.now) i.now) }
     ensures { Sorts (language_of table.now) place pair.now (entries_view entries.now) means.old.left means.new.left result }
 {
     if let Some(index) = index {
@@ -553,22 +569,22 @@ fn pair_fate<'i>(
 fn indexed_fate<'i>(
     table: &Table,
     means: &mut Means<'i>,
-    index: &KeyIndex<'_>,
+    index: &LiteralIndex,
     entries: &[MapEntry],
     pair: &'i (Item, Item),
     place: usize,
     depth: u8,
 ) -> Result<Fate, Stop>
-    requires { IsIndexOf (language_of table.now).type_at (entries_view entries.now) index.now }
+    requires { IsEntryIndexOf (language_of table.now).type_at (entries_view entries.now) index.now }
     ensures { Sorts (language_of table.now) place pair.now (entries_view entries.now) means.old.left means.new.left result }
 {
-    let mut left = entries;
-    while let Some((entry, others)) = unpassed(index, entries, left, &pair.0).split_first() {
+    let mut next = index.first(&pair.0);
+    while let Some((entry, others)) = entries_from(entries, next).split_first() {
         let after = others.len();
         if let Some(fate) = entry_meets(table, means, entry, after, pair, place, depth)? {
             return Ok(fate);
         }
-        left = others;
+        next = index.after(next);
     }
     Ok(Fate::Stray { place })
 }

@@ -1,3 +1,1 @@
 mod OfBits
-mod OfIndex
-mod OfKeys

@@ -2,13 +2,11 @@
 #![tactic(auto)]
 
 mod bits;
-mod index;
 mod keys;
 mod subject;
 mod tested;
 
 pub use crate::bits::left_after_bits;
-pub use crate::index::KeyIndex;
 pub use crate::keys::is_passed_over;
 pub use crate::subject::Subject;
 pub use crate::tested::{passes, passes_test};

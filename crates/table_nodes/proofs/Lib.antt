@@ -8,3 +8,4 @@ mod Showing
 mod Rowing
 mod OfFlags
 mod Asking
+mod OfKeys

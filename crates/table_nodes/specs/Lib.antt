@@ -7,4 +7,6 @@ pub mod Flags
 pub mod Majors
 pub mod Codes
 pub mod Choices
+pub mod Keys
+pub mod Entries
 pub mod Indexes

@@ -3,14 +3,17 @@
 
 mod choices;
 mod codes;
+mod entries;
 pub mod flags;
+mod indexes;
+mod keys;
 mod majors;
 mod nodes;
 mod ranks;
 mod sizes;
 mod table;
 
-pub use crate::choices::{Candidates, MemberIndex};
+pub use crate::indexes::{Candidates, LiteralIndex};
 pub use crate::majors::{Told, major_of};
 pub use crate::nodes::{
     Content, Group, GroupId, MapEntry, Most, Node, TagNumber, Test, TypeId, Whole,

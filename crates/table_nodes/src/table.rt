@@ -7,10 +7,13 @@ ghost use Rattle.table_nodes.specs.Majors.{AreShown, are_shown_once};
 ghost use Rattle.table_nodes.specs.Nodes.{language_in};
 ghost use Rattle.table_nodes.specs.Ranks.{greatest, rank_in};
 
-use crate::choices::{MemberIndex, index_at, indexes_of, may_have_index};
+use crate::indexes::{LiteralIndex, index_at, indexes_of};
+use crate::keys::literal_in;
 use crate::majors::{Told, known_of, told_of};
-use crate::nodes::{Group, GroupId, Node, TypeId};
+use crate::nodes::{Group, GroupId, MapEntry, Node, TypeId};
 use crate::ranks::{NotRanked, Ranks, are_ranked, greatest};
+use crate::{choices, entries};
+use item_nodes::Item;
 use std::alloc::{AllocError, Global};
 
 /// Types and groups by their numbers, each with a rank, and the number of the root type. A number that is not there is a
@@ -24,22 +27,23 @@ pub struct Table {
     group_ranks: Vec<usize>,
     ranks: usize,
     told: Vec<[Told; 8]>,
-    choices: Vec<MemberIndex>,
+    indexes: Vec<LiteralIndex>,
     pub ghost bound: { ranks ≡ max (greatest type_ranks.items) (greatest group_ranks.items) },
     pub ghost ranked: { IsRanked (language_in types.items groups.items) (rank_in type_ranks.items group_ranks.items) ranks },
     pub ghost shown: { AreShown types.items told.items } by { are_shown_once types.items told.items },
-    pub ghost indexed: { AreIndexed types.items choices.items } by { are_indexed_once types.items choices.items },
+    pub ghost indexed: { AreIndexed types.items indexes.items } by { are_indexed_once types.items indexes.items },
 }
 
 impl Table {
-    ghost use Rattle.std.specs.Prelude.{◌≡◌, [], ℕ, Bool, List, Some, IfErr, IfOk, IfSome, IfNone};
-    ghost use Rattle.cddl_meaning.specs.Forms.{Alternatives, Choice};
+    ghost use Rattle.std.specs.Prelude.{◌≡◌, [], ℕ, Bool, List, None, Some, IfErr, IfOk, IfSome, IfNone, MatchOption, slice_get};
+    ghost use Rattle.cddl_meaning.specs.Forms.{Alternatives, Choice, MapEntry as Entry, MapOf, key_in, most_forms};
+    ghost use Rattle.item_nodes.specs.View.{view};
     ghost use Rattle.cddl_meaning.specs.Ranks.Flags.{AreFlags};
     ghost use Rattle.cddl_meaning.specs.Ranks.Ranked.{IsRanked};
-    ghost use Rattle.table_nodes.specs.Nodes.{group_view, language_in, type_view};
+    ghost use Rattle.table_nodes.specs.Nodes.{entries_view, group_view, language_in, type_view};
     ghost use Rattle.table_nodes.specs.Ranks.{flag_in, rank_in};
     ghost use Rattle.table_nodes.specs.Language.{language_of, rank_of, ranks_of, root_of, shown_of, told_of};
-    ghost use Rattle.table_nodes.specs.Indexes.{IsIndexOf};
+    ghost use Rattle.table_nodes.specs.Indexes.{IsEntryIndexOf, IsIndexOf};
     ghost use Rattle.table_nodes.specs.Majors.{TellsOf, told_view};
     ghost use Rattle.table_nodes.specs.declared.nodes.TypeId.{TypeId};
 
@@ -71,7 +75,7 @@ impl Table {
         } = ranks;
         let most = greatest(&type_ranks).max(greatest(&group_ranks));
         let told = Vec::new(*types.allocator());
-        let choices = Vec::new(*types.allocator());
+        let indexes = Vec::new(*types.allocator());
         Ok(Table {
             types,
             groups,
@@ -80,7 +84,7 @@ impl Table {
             group_ranks,
             ranks: most,
             told,
-            choices,
+            indexes,
         })
     }
 
@@ -100,7 +104,7 @@ impl Table {
             type_ranks,
             group_ranks,
             ranks,
-            choices,
+            indexes,
             ..
         } = self;
         let told = told_of(alloc, &types)?;
@@ -112,12 +116,12 @@ impl Table {
             group_ranks,
             ranks,
             told,
-            choices,
+            indexes,
         })
     }
 
-    /// The same table, in which the members of choices of many literals are looked up. It takes 16 bytes for each member of
-    /// such a choice, and time for each part of the types.
+    /// The same table, in which the members of choices of many literals are looked up, and the entries of maps by their keys. It
+    /// takes at most 24 bytes for each member of such a choice and each such entry, and time for each part of the types.
     pub fn with_indexes(self, alloc: Global) -> Result<Table, AllocError>
         ensures language { IfOk result (λ table. language_of table ≡ language_of self) }
         ensures root { IfOk result (λ table. root_of table ≡ root_of self) }
@@ -135,7 +139,7 @@ impl Table {
             told,
             ..
         } = self;
-        let choices = indexes_of(alloc, &types)?;
+        let indexes = indexes_of(alloc, &types)?;
         Ok(Table {
             types,
             groups,
@@ -144,7 +148,7 @@ impl Table {
             group_ranks,
             ranks,
             told,
-            choices,
+            indexes,
         })
     }
 
@@ -183,13 +187,39 @@ impl Table {
 
     /// The index of the members of a choice, if one is kept: where 16 of them or more are whole numbers or strings.
     #[inline]
-    pub fn index_of(&self, choice: TypeId, members: &[TypeId]) -> Option<&MemberIndex>
+    pub fn index_of(&self, choice: TypeId, members: &[TypeId]) -> Option<&LiteralIndex>
         ensures { (language_of self.now).type_at choice ≡ Choice members.now → IfSome result (λ index. IsIndexOf (language_of self.now).type_at members.now index.now) }
     {
-        if !may_have_index(members) {
+        if !choices::may_have_index(members) {
             return None;
         }
-        index_at(&self.choices, choice)
+        index_at(&self.indexes, choice, 0)
+    }
+
+    /// The index of the entries of an alternative of a map, by its number, if one is kept: where there are 10 of them or more,
+    /// no key is a string of 1,024 bytes or more, and no more than 32 have keys that the index puts together.
+    #[inline]
+    pub fn entry_index_of(
+        &self,
+        map: TypeId,
+        way: usize,
+        entries: &[MapEntry],
+    ) -> Option<&LiteralIndex>
+        ensures { (ways : List (List (Entry TypeId))) → (language_of self.now).type_at map ≡ MapOf ways → slice_get ways way ≡ Some (entries_view entries.now) → IfSome result (λ index. IsEntryIndexOf (language_of self.now).type_at (entries_view entries.now) index.now) }
+    {
+        if !entries::may_have_index(entries) {
+            return None;
+        }
+        index_at(&self.indexes, map, way)
+    }
+
+    /// The one value that a type is known to be by its form: a value, or what a name or a choice of one stands for, through 16 of
+    /// these at most.
+    #[inline]
+    pub fn literal_of(&self, id: TypeId) -> Option<&Item>
+        ensures { MatchOption result (key_in (language_of self.now).type_at most_forms id ≡ None) (λ literal. key_in (language_of self.now).type_at most_forms id ≡ Some (view literal.now)) }
+    {
+        literal_in(&self.types, id)
     }
 
     /// The group of this number, if it is there.

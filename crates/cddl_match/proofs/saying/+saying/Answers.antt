@@ -1,7 +1,10 @@
-use Rattle.std.proofs.Common.{◌≡◌, ◌+◌, ◌-◌, length, max, true, false, refl, sym, ap, subst, ◌∙◌, arith}
-use Rattle.std.specs.Prelude.{Err}
+use Rattle.std.proofs.Common.{◌≡◌, ◌+◌, ◌-◌, [], ◌∷◌, Some, drop, length, slice_get, max, true, false, refl, sym, ap, subst, ◌∙◌, arith}
+use Rattle.std.specs.Prelude.{Err, IfSome, option_map}
+use Rattle.std.specs.declared.alloc.Global.{Global}
+use Rattle.std.specs.declared.vec.Vec.{Vec}
+use Rattle.std.proofs.lemmas.Option.{slice_get-map, slice_get_read}
 use Rattle.std.proofs.lemmas.Result.{err_from_is_err_and}
-use Rattle.lists.proofs.Lemmas.{none_left}
+use Rattle.lists.proofs.Lemmas.{next_drop, none_left}
 use Rattle.cbor_data.specs.Value.{place_count, uint}
 use Rattle.item_nodes.specs.View.{pairs_view, view}
 use Rattle.cddl_meaning.specs.Forms.{passes}
@@ -12,14 +15,18 @@ use Rattle.table_nodes.specs.Majors.{told_view}
 use Rattle.table_nodes.specs.Nodes.{alternatives_view, content_view, entries_view, entry_view, most_view, test_view, type_view}
 use Rattle.table_nodes.specs.declared.nodes.GroupId.{GroupId}
 use Rattle.cddl_match.specs.Ahead.{ComesTo}
-use Rattle.match_tests.specs.Places.{IsIndexOf}
 use Rattle.match_moves.specs.Views.{reply_view, rounds_move, tally_view, values}
 use Rattle.cddl_match.specs.Within.{Replied, Stopped, Says, done_view, said_view}
 use Rattle.item_nodes.proofs.Lemmas.{view-Uint}
 use Rattle.cddl_match.specs.Choosing.{left_of}
+use Rattle.cddl_match.specs.Entering.{ArePassed}
+use Rattle.cddl_match.specs.Tellings.{HandsOn}
+use Rattle.table_nodes.specs.Entries.{entry_buckets_in}
+use Rattle.table_nodes.specs.Indexes.{IsEntryIndexOf, first_of}
+use Rattle.table_nodes.specs.declared.nodes.MapEntry.{MapEntry}
 use Rattle.cddl_match.proofs.Passed.{choice_ends, member_asked}
 use Rattle.cddl_match.proofs.Outcomes.{answered, begins, ends_on, passes_on, says_on, took, asks}
-use Rattle.cddl_match.proofs.Passing.{lent}
+use Rattle.cddl_match.proofs.Passing.{after_first, begins_led, goes_led, some_left}
 use Rattle.cddl_match.proofs.Sayings.{has_said, type_on, type_few, group_on, group_few, no_passes, yes_passes, array_ends, simple_ends, meant_ends, held_ends, nothing_held, entry_ends, goes_on, ends_so, stops, round_stops}
 use Rattle.cddl_match.proofs.Handing.{handed_on, handed_past, is_stray, its_value, kept, key_asked, key_few, key_passed, met, met_stops, none_tried, other_value, value_spent}
 use Rattle.cddl_match.proofs.Tellings.{as_many_entries, no_pair_told, pair_few, pair_sorted, pair_stops, pair_told, told_and, told_fits}
@@ -165,25 +172,46 @@ held_says-returns-in-Ok-None t c = rw c.in-Some.ensures (nothing_held (language_
 pub held_says-returns-in-Ok-Some : goal.held_says-returns-in-Ok-Some
 held_says-returns-in-Ok-Some t c = rw (c.in-Some.ensures, c.held_said.ensures) (held_ends (language_of c.args.table.now) (content_view c.args.content) c.in-Some.bytes.now c.args.node c.args.place c.args.next (view c.in-Ok-Some.held) c.args.means.now.left c.apart_says.new.means.left _ (rw c.in-Ok-Some.field-0-is at c.in-Ok-Some.ensures.held) c.apart_says.ensures)
 
-pub map_says-loop-entries-init : goal.map_says-loop-entries-init
-map_says-loop-entries-init t c = record {
+pub type_says_here-form_says-requires : goal.type_says_here-form_says-requires
+type_says_here-form_says-requires t c = (omega arith, rw c.in-Some-form.is at c.type_behind-behind.ensures.form)
+
+pub form_says-map_says-requires : goal.form_says-map_says-requires
+form_says-map_says-requires t c = (omega arith, rw c.deref-in-Some.ensures.value (c.requires ∙ ap type_view c.in-MapOf.is))
+
+pub map_says-loop-way-init : goal.map_says-loop-way-init
+map_says-loop-way-init t c = record {
   known = rw c.nothing_tallied-tallied.ensures tt;
   within = omega arith;
   comes = (J.Fails c.args.base, refl, begins (language_of c.args.table.now) (M.next_way {G = GroupId} (alternatives_view c.args.alternatives.now) c.args.base (pairs_view c.args.pairs.now) (J.Fails c.args.base)) c.args.means.now.left);
 }
 
-pub map_says-loop-entries-preserved : goal.map_says-loop-entries-preserved
-map_says-loop-entries-preserved t c =
+pub map_says-alternative_says-requires : goal.map_says-alternative_says-requires
+map_says-alternative_says-requires t c =
     let l = language_of c.args.table.now in
-    let i = c.loop-entries.invariant.comes in
-    let here = rw c.in-Some.ensures.cases.0 at i.2 in
-    let x = has_said c.alternative_says.result c.in_default-alternative_says.not-Spent c.in_default-alternative_says.not-NoMemory in
-    let q = M.OfAlternative (entries_view c.in-Some.entries.now.items) c.args.base (pairs_view c.args.pairs.now) in
-    let told : Says l q c.loop-entries.means.left c.alternative_says.new.means.left (Replied x.0) = subst (λ o. Says l q c.loop-entries.means.left c.alternative_says.new.means.left o) x.1 (rw c.deref.ensures.value at c.alternative_says.ensures.says) in
+    let alts = c.args.alternatives.now in
+    let way = c.loop-way.way in
+    let entries_of = λ (es : Vec MapEntry Global). entries_view es.items in
+    let same : c.deref.result.now ≡ c.deref-in-loop-way.result.now = c.deref.ensures.value ∙ sym c.deref-in-loop-way.ensures.value in
+    let there : slice_get (alternatives_view alts) way ≡ Some (entries_view c.deref.result.now) = slice_get-map entries_of alts way ∙ (ap (option_map entries_of) (slice_get_read alts _ way c.index-alternatives-way.result refl c.loop-way-test.true c.index-alternatives-way.is) ∙ ap (λ es. Some (entries_view es)) (sym c.deref.ensures.value)) in
+    let found = c.entry_index_of-index.ensures (alternatives_view alts) c.requires there in
+    (omega arith, (c.loop-way.invariant.known, subst (λ es. IfSome c.entry_index_of-index.result (λ i. IsEntryIndexOf l.type_at (entries_view es) i.now)) same found))
+
+pub map_says-loop-way-preserved : goal.map_says-loop-way-preserved
+map_says-loop-way-preserved t c =
+    let l = language_of c.args.table.now in
+    let i = c.loop-way.invariant.comes in
+    let alts = c.args.alternatives.now in
+    let ps = pairs_view c.args.pairs.now in
+    let taken = c.args.means.now.left - c.loop-way.means.left in
+    let next : drop c.loop-way.way alts ≡ c.index-alternatives-way.result ∷ drop (c.loop-way.way + 1) alts = next_drop alts c.loop-way.way c.index-alternatives-way.result c.loop-way-test.true c.index-alternatives-way.is in
+    let here = subst (λ ws. ComesTo l (M.next_way {G = GroupId} (alternatives_view alts) c.args.base ps (J.Fails c.args.base)) (M.next_way {G = GroupId} (alternatives_view ws) c.args.base ps i.0) taken) next i.2 in
+    let x = has_said c.alternative_says.result c.in_default.not-Spent c.in_default.not-NoMemory in
+    let q = M.OfAlternative (entries_view c.index-alternatives-way.result.items) c.args.base ps in
+    let told : Says l q c.loop-way.means.left c.alternative_says.new.means.left (Replied x.0) = subst (λ o. Says l q c.loop-way.means.left c.alternative_says.new.means.left o) x.1 (rw c.deref-in-loop-way.ensures.value at c.alternative_says.ensures.says) in
     record {
       known = c.alternative_says.ensures.known;
-      within = omega (arith, c.loop-entries.invariant.within, told.1);
-      comes = (M.either_reply i.0 x.0, c.either_said-sofar.ensures i.0 x.0 i.1 x.1, goes_on l (M.InMap (alternatives_view c.in-Some.others.now) c.args.base (pairs_view c.args.pairs.now) i.0) c.args.means.now.left c.loop-entries.means.left c.alternative_says.new.means.left here c.loop-entries.invariant.within told);
+      within = omega (arith, c.loop-way.invariant.within, told.1);
+      comes = (M.either_reply i.0 x.0, c.either_said-sofar.ensures i.0 x.0 i.1 x.1, goes_on l (M.InMap (alternatives_view (drop (c.loop-way.way + 1) alts)) c.args.base ps i.0) c.args.means.now.left c.loop-way.means.left c.alternative_says.new.means.left here c.loop-way.invariant.within told);
     }
 
 pub alternative_says-returns-in-Ok-clause-says : goal.alternative_says-returns-in-Ok-clause-says
@@ -237,9 +265,6 @@ tally_pairs-loop-pair-preserved t c =
       comes = rw (place, c.tally_pair.ensures) (pair_sorted l (λ n. refl) es c.args.base c.loop-pair.place both rest ps tally c.in_ok-fate.fate c.args.means.now.left c.loop-pair.means.left c.in-Some-checked_sub.some c.pair_fate.new.means.left here c.loop-pair.invariant.within one c.in_ok-fate.ensures);
       known = rw (c.told_with-told.ensures, place, c.tally_pair.ensures) (pair_told l (λ n. refl) es c.args.base c.loop-pair.place both rest ps tally c.loop-pair.told c.in_ok-fate.fate (length c.args.entries.now) c.args.means.now.left c.loop-pair.means.left c.in-Some-checked_sub.some c.pair_fate.new.means.left (as_many_entries c.args.entries.now) c.loop-pair.invariant.within one known c.in_ok-fate.ensures);
     }
-
-pub tally_pairs-pair_fate-requires : goal.tally_pairs-pair_fate-requires
-tally_pairs-pair_fate-requires t c = (omega arith, lent c.as_ref-index.result c.index_for-index.result (IsIndexOf (language_of c.args.table.now).type_at (entries_view c.args.entries.now)) c.as_ref-index.ensures.value c.index_for-index.ensures)
 
 pub tally_pairs-first_are_enough-tallied-requires : goal.tally_pairs-first_are_enough-tallied-requires
 tally_pairs-first_are_enough-tallied-requires t c = told_fits (language_of c.args.table.now) c.args.entries.now c.args.base c.loop-pair.place (c.args.means.now.left - c.loop-pair.means.left) (pairs_view c.args.pairs.now) (pairs_view c.loop-pair.left.now) (tally_view c.loop-pair.tallied.tally) c.loop-pair.told c.loop-pair.invariant.known
@@ -305,34 +330,75 @@ pair_fate-returns t c =
     (is_stray (language_of c.args.table.now) c.args.place c.args.pair.now (entries_view c.args.entries.now) taken (rw (none_left _ c.in_default-split_first.ensures.cases) at c.loop-entry.invariant.comes), c.loop-entry.invariant.within)
 
 pub indexed_fate-loop-entry-init : goal.indexed_fate-loop-entry-init
-indexed_fate-loop-entry-init t c = record {
-  within = omega arith;
-  comes = none_tried (language_of c.args.table.now) c.args.place c.args.pair.now (entries_view c.args.entries.now) c.args.means.now.left;
-}
+indexed_fate-loop-entry-init t c =
+    let l = language_of c.args.table.now in
+    let es = entries_view c.args.entries.now in
+    let led = begins_led l (view c.args.pair.now.0) es c.first-next.result refl (λ many. c.first-next.ensures (entry_buckets_in l.type_at es) (length es) c.requires many) in
+    record {
+      within = omega arith;
+      led = led.0;
+      comes = handed_past l c.args.place c.args.pair.now es es (drop (first_of c.first-next.result) es) (c.args.means.now.left - c.args.means.now.left) (none_tried l c.args.place c.args.pair.now es c.args.means.now.left) led.1;
+    }
 
 pub indexed_fate-loop-entry-preserved : goal.indexed_fate-loop-entry-preserved
 indexed_fate-loop-entry-preserved t c =
+    let l = language_of c.args.table.now in
+    let es = entries_view c.args.entries.now in
+    let os = entries_view c.in-Some.others.now in
+    let e = entry_view c.in-Some.entry.now in
+    let taken = c.args.means.now.left - c.loop-entry.means.left in
     let met = rw c.in_default-2.is at c.in_ok-fate.ensures in
+    let first : drop (first_of c.loop-entry.next) es ≡ e ∷ os = sym c.entries_from.ensures ∙ ap entries_view c.in-Some.ensures.cases.0 in
+    let here : HandsOn l c.args.place c.args.pair.now es (e ∷ os) taken = subst (λ xs. HandsOn l c.args.place c.args.pair.now es xs taken) first c.loop-entry.invariant.comes in
+    let led = goes_led l (view c.args.pair.now.0) es c.loop-entry.next c.after-next.result refl c.loop-entry.invariant.led (some_left (first_of c.loop-entry.next) es e os first) (λ from next below. c.after-next.ensures (entry_buckets_in l.type_at es) (length es) (view c.args.pair.now.0) from c.requires next below) in
     record {
       within = omega (arith, c.loop-entry.invariant.within, met.1);
-      comes = handed_on (language_of c.args.table.now) c.args.place c.args.pair.now (entries_view c.args.entries.now) (entry_view c.in-Some.entry.now) (entries_view c.in-Some.others.now) c.args.means.now.left c.loop-entry.means.left (rw c.in-Some.ensures.cases.0 at (handed_past (language_of c.args.table.now) c.args.place c.args.pair.now (entries_view c.args.entries.now) (entries_view c.loop-entry.left.now) (entries_view c.unpassed.result.now) (c.args.means.now.left - c.loop-entry.means.left) c.loop-entry.invariant.comes (c.unpassed.ensures c.args.table.now c.requires))) c.loop-entry.invariant.within c.entry_meets.new.means.left met;
+      led = led.0;
+      comes = handed_past l c.args.place c.args.pair.now es os (drop (first_of c.after-next.result) es) (c.args.means.now.left - c.entry_meets.new.means.left) (handed_on l c.args.place c.args.pair.now es e os c.args.means.now.left c.loop-entry.means.left here c.loop-entry.invariant.within c.entry_meets.new.means.left met) (subst (λ xs. ArePassed l (view c.args.pair.now.0) xs (drop (first_of c.after-next.result) es)) (after_first (first_of c.loop-entry.next) es e os first) led.1.0);
     }
 
+pub indexed_fate-loop-entry-smaller : goal.indexed_fate-loop-entry-smaller
+indexed_fate-loop-entry-smaller t c =
+    let l = language_of c.args.table.now in
+    let es = entries_view c.args.entries.now in
+    let os = entries_view c.in-Some.others.now in
+    let e = entry_view c.in-Some.entry.now in
+    let first : drop (first_of c.loop-entry.next) es ≡ e ∷ os = sym c.entries_from.ensures ∙ ap entries_view c.in-Some.ensures.cases.0 in
+    let inside = some_left (first_of c.loop-entry.next) es e os first in
+    let led = goes_led l (view c.args.pair.now.0) es c.loop-entry.next c.after-next.result refl c.loop-entry.invariant.led inside (λ from next below. c.after-next.ensures (entry_buckets_in l.type_at es) (length es) (view c.args.pair.now.0) from c.requires next below) in
+    omega (arith, led.1.1, inside, as_many_entries c.args.entries.now)
+
 pub indexed_fate-returns-in-Some-2 : goal.indexed_fate-returns-in-Some-2
-indexed_fate-returns-in-Some-2 t c = met (language_of c.args.table.now) c.args.place c.args.pair.now (entries_view c.args.entries.now) (entry_view c.in-Some.entry.now) (entries_view c.in-Some.others.now) c.args.means.now.left c.loop-entry.means.left (rw c.in-Some.ensures.cases.0 at (handed_past (language_of c.args.table.now) c.args.place c.args.pair.now (entries_view c.args.entries.now) (entries_view c.loop-entry.left.now) (entries_view c.unpassed.result.now) (c.args.means.now.left - c.loop-entry.means.left) c.loop-entry.invariant.comes (c.unpassed.ensures c.args.table.now c.requires))) c.loop-entry.invariant.within (length c.in-Some.others.now) c.entry_meets.new.means.left c.in-Some-2.fate (sym (as_many_entries c.in-Some.others.now)) (rw c.in-Some-2.is at c.in_ok-fate.ensures)
+indexed_fate-returns-in-Some-2 t c =
+    let l = language_of c.args.table.now in
+    let es = entries_view c.args.entries.now in
+    let os = entries_view c.in-Some.others.now in
+    let e = entry_view c.in-Some.entry.now in
+    let taken = c.args.means.now.left - c.loop-entry.means.left in
+    let first : drop (first_of c.loop-entry.next) es ≡ e ∷ os = sym c.entries_from.ensures ∙ ap entries_view c.in-Some.ensures.cases.0 in
+    let here : HandsOn l c.args.place c.args.pair.now es (e ∷ os) taken = subst (λ xs. HandsOn l c.args.place c.args.pair.now es xs taken) first c.loop-entry.invariant.comes in
+    met l c.args.place c.args.pair.now es e os c.args.means.now.left c.loop-entry.means.left here c.loop-entry.invariant.within (length c.in-Some.others.now) c.entry_meets.new.means.left c.in-Some-2.fate (sym (as_many_entries c.in-Some.others.now)) (rw c.in-Some-2.is at c.in_ok-fate.ensures)
 
 pub indexed_fate-returns-in_err-fate : goal.indexed_fate-returns-in_err-fate
 indexed_fate-returns-in_err-fate t c =
-    let e = err_from_is_err_and c.from_residual.result c.from_residual.ensures.1 in
-    rw (e.1 ∙ ap Err e.2) (met_stops (language_of c.args.table.now) c.args.place c.args.pair.now (entries_view c.args.entries.now) (entry_view c.in-Some.entry.now) (entries_view c.in-Some.others.now) c.args.means.now.left c.loop-entry.means.left (rw c.in-Some.ensures.cases.0 at (handed_past (language_of c.args.table.now) c.args.place c.args.pair.now (entries_view c.args.entries.now) (entries_view c.loop-entry.left.now) (entries_view c.unpassed.result.now) (c.args.means.now.left - c.loop-entry.means.left) c.loop-entry.invariant.comes (c.unpassed.ensures c.args.table.now c.requires))) c.loop-entry.invariant.within (length c.in-Some.others.now) c.entry_meets.new.means.left _ c.in_err-fate.ensures)
+    let l = language_of c.args.table.now in
+    let es = entries_view c.args.entries.now in
+    let os = entries_view c.in-Some.others.now in
+    let e = entry_view c.in-Some.entry.now in
+    let taken = c.args.means.now.left - c.loop-entry.means.left in
+    let first : drop (first_of c.loop-entry.next) es ≡ e ∷ os = sym c.entries_from.ensures ∙ ap entries_view c.in-Some.ensures.cases.0 in
+    let here : HandsOn l c.args.place c.args.pair.now es (e ∷ os) taken = subst (λ xs. HandsOn l c.args.place c.args.pair.now es xs taken) first c.loop-entry.invariant.comes in
+    let err = err_from_is_err_and c.from_residual.result c.from_residual.ensures.1 in
+    rw (err.1 ∙ ap Err err.2) (met_stops l c.args.place c.args.pair.now es e os c.args.means.now.left c.loop-entry.means.left here c.loop-entry.invariant.within (length c.in-Some.others.now) c.entry_meets.new.means.left _ c.in_err-fate.ensures)
 
 pub indexed_fate-returns : goal.indexed_fate-returns
 indexed_fate-returns t c =
     let l = language_of c.args.table.now in
     let es = entries_view c.args.entries.now in
     let taken = c.args.means.now.left - c.loop-entry.means.left in
-    let here = handed_past l c.args.place c.args.pair.now es (entries_view c.loop-entry.left.now) (entries_view c.unpassed.result.now) taken c.loop-entry.invariant.comes (c.unpassed.ensures c.args.table.now c.requires) in
-    (is_stray l c.args.place c.args.pair.now es taken (rw (none_left _ c.in_default.ensures.cases) at here), c.loop-entry.invariant.within)
+    let none : drop (first_of c.loop-entry.next) es ≡ [] = sym c.entries_from.ensures ∙ ap entries_view (none_left _ c.in_default.ensures.cases) in
+    let here : HandsOn l c.args.place c.args.pair.now es [] taken = subst (λ xs. HandsOn l c.args.place c.args.pair.now es xs taken) none c.loop-entry.invariant.comes in
+    (is_stray l c.args.place c.args.pair.now es taken here, c.loop-entry.invariant.within)
 
 pub entry_does-returns-in-Some : goal.entry_does-returns-in-Some
 entry_does-returns-in-Some t c = rw (c.in-Some.ensures.cases.0, c.entry_done.ensures) (entry_ends (language_of c.args.table.now) c.args.node c.args.base c.args.place (view c.in-Some.item.now) (values c.in-Some.rest.now) c.args.means.now.left c.type_says_here-said.new.means.left _ c.type_says_here-said.ensures)

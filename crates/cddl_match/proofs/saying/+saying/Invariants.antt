@@ -1,12 +1,14 @@
-use Rattle.std.proofs.Common.{◌≡◌, ◌+◌, ◌-◌, ◌*◌, ◌≤◌, None, length}
+use Rattle.std.proofs.Common.{◌≡◌, ◌+◌, ◌-◌, ◌*◌, ◌≤◌, None, drop, length}
 use Rattle.std.specs.Prelude.{IfSome}
 use Rattle.item_nodes.specs.View.{pairs_view, view}
 use Rattle.cddl_meaning.specs.Judges.{Reply, Fails}
 use Rattle.cddl_meaning.specs.Moves as M
+use Rattle.table_nodes.specs.Indexes.{first_of}
 use Rattle.table_nodes.specs.Language.{language_of}
 use Rattle.table_nodes.specs.Nodes.{alternatives_view, entries_view}
 use Rattle.cddl_match.specs.Ahead.{ComesTo}
 use Rattle.cddl_match.specs.Choosing.{IsAsking, left_of}
+use Rattle.cddl_match.specs.Entering.{AreLed}
 use Rattle.cddl_match.specs.Tellings.{AreTold, HandsOn, IsTallied}
 use Rattle.match_moves.specs.Views.{parts_move, rounds_move, tally_view, values}
 use Rattle.cddl_match.specs.Within.{Replied, said_view}
@@ -22,11 +24,11 @@ invariant-choice_says-loop-member l = record {
   comes : ComesTo (language_of l.fn.table) (M.next_member (left_of l.fn.members) l.fn.place (view l.fn.item) l.fn.place) (M.next_member (left_of l.left) l.fn.place (view l.fn.item) l.far) (l.fn.means.left - l.means.left);
 }
 
-abbrev pub invariant-map_says-loop-entries : goal.invariant-map_says-loop-entries
-invariant-map_says-loop-entries l = record {
+abbrev pub invariant-map_says-loop-way : goal.invariant-map_says-loop-way
+invariant-map_says-loop-way l = record {
   known : IsTallied (language_of l.fn.table) l.fn.base (pairs_view l.fn.pairs) l.tallied;
   within : l.means.left ≤ l.fn.means.left;
-  comes : (r : Reply) × (said_view l.sofar ≡ Replied r) × ComesTo (language_of l.fn.table) (M.next_way (alternatives_view l.fn.alternatives) l.fn.base (pairs_view l.fn.pairs) (Fails l.fn.base)) (M.next_way (alternatives_view l.left) l.fn.base (pairs_view l.fn.pairs) r) (l.fn.means.left - l.means.left);
+  comes : (r : Reply) × (said_view l.sofar ≡ Replied r) × ComesTo (language_of l.fn.table) (M.next_way (alternatives_view l.fn.alternatives) l.fn.base (pairs_view l.fn.pairs) (Fails l.fn.base)) (M.next_way (alternatives_view (drop l.way l.fn.alternatives)) l.fn.base (pairs_view l.fn.pairs) r) (l.fn.means.left - l.means.left);
 }
 
 abbrev pub invariant-tally_pairs-loop-pair : goal.invariant-tally_pairs-loop-pair
@@ -46,7 +48,8 @@ invariant-pair_fate-loop-entry l = record {
 abbrev pub invariant-indexed_fate-loop-entry : goal.invariant-indexed_fate-loop-entry
 invariant-indexed_fate-loop-entry l = record {
   within : l.means.left ≤ l.fn.means.left;
-  comes : HandsOn (language_of l.fn.table) l.fn.place l.fn.pair (entries_view l.fn.entries) (entries_view l.left) (l.fn.means.left - l.means.left);
+  led : AreLed (language_of l.fn.table) (view l.fn.pair.0) (entries_view l.fn.entries) l.next;
+  comes : HandsOn (language_of l.fn.table) l.fn.place l.fn.pair (entries_view l.fn.entries) (drop (first_of l.next) (entries_view l.fn.entries)) (l.fn.means.left - l.means.left);
 }
 
 abbrev pub invariant-parts_do-loop-part : goal.invariant-parts_do-loop-part
@@ -70,9 +73,6 @@ invariant-rounds_do-loop-group l = record {
 abbrev pub decreases-choice_says-loop-member : goal.decreases-choice_says-loop-member
 decreases-choice_says-loop-member l = length (left_of l.left)
 
-abbrev pub decreases-map_says-loop-entries : goal.decreases-map_says-loop-entries
-decreases-map_says-loop-entries l = length l.left
-
 abbrev pub decreases-tally_pairs-loop-pair : goal.decreases-tally_pairs-loop-pair
 decreases-tally_pairs-loop-pair l = length l.left
 
@@ -80,7 +80,7 @@ abbrev pub decreases-pair_fate-loop-entry : goal.decreases-pair_fate-loop-entry
 decreases-pair_fate-loop-entry l = length l.left
 
 abbrev pub decreases-indexed_fate-loop-entry : goal.decreases-indexed_fate-loop-entry
-decreases-indexed_fate-loop-entry l = length l.left
+decreases-indexed_fate-loop-entry l = length l.fn.entries - first_of l.next
 
 abbrev pub decreases-parts_do-loop-part : goal.decreases-parts_do-loop-part
 decreases-parts_do-loop-part l = length l.left.parts.now

@@ -5,5 +5,5 @@ invariant_of-result c = record {
   bound = c.args.self.bound;
   ranked = c.args.self.ranked;
   shown = c.args.self.shown;
-  indexed = rw c.deref.ensures.value at c.in_ok-choices.ensures;
+  indexed = rw c.deref.ensures.value at c.in_ok-indexes.ensures;
 }
