@@ -43,7 +43,7 @@ values xs = map view xs
 
 -- counts, those of few entries and those of more
 abbrev pub counts_view : Counts → List ℕ
-counts_view c = if nat_le c.entries 8 then take c.entries c.few else c.many.items
+counts_view c = if nat_le c.entries 16 then take c.entries c.few else c.many.items
 
 -- a tally, what becomes of a pair, and a pair that is sorted
 abbrev pub tally_view : Tally → M.Tally

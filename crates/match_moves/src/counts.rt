@@ -7,7 +7,7 @@ ghost use Rattle.match_moves.specs.Views.{counts_view};
 use std::alloc::{AllocError, Global};
 
 /// Most alternatives have no more entries than these, and their counts take no memory.
-const FEW: usize = 8;
+const FEW: usize = 16;
 
 /// A count for each entry.
 #[derive(Drop)]
