@@ -1,6 +1,7 @@
 mod Forms
 mod Heads
 mod Items
+mod Longest
 mod Members
 mod OnTape
 mod Pairs

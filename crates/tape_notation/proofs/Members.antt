@@ -1,12 +1,12 @@
 -- The members of an array, shown one after the other.
-use Rattle.std.proofs.Common.{◌≡◌, ℕ, zero, suc, ◌-◌, ◌<◌, ◌≤◌, List, [], ◌++◌, get_or, refl, sym, ap, ◌∙◌, subst, arith, append_assoc, append-nil}
+use Rattle.std.proofs.Common.{◌≡◌, ℕ, zero, suc, ◌+◌, ◌-◌, ◌<◌, ◌≤◌, List, [], ◌++◌, length, get_or, refl, sym, ap, ◌∙◌, subst, arith, append_assoc, append-nil, length-append}
 use Rattle.std.specs.Prelude.{codes}
 use Rattle.cbor_data.specs.Notation.{notation, members_notation, further_members_notation}
 use Rattle.cbor_data.specs.Value.{Value, Values, no_values, value, places, values_places, array}
 use Rattle.cbor_tape.specs.declared.entry.Entry.{Entry}
 use Rattle.cbor_tape.proofs.Lemmas.{places_counted}
 use Rattle.item_nodes.specs.Comma.{comma}
-use Rattle.tape_notation.specs.OnTape.{AreOn, AreMembersOn, HasItem}
+use Rattle.tape_notation.specs.OnTape.{AreOn, AreMembersOn}
 use Rattle.tape_notation.specs.Put.{IsPut}
 use Rattle.tape_notation.proofs.OnTape.{IsHere, item_here, these_on, those_on}
 use Rattle.tape_notation.proofs.Puts.{more_put}
@@ -69,8 +69,22 @@ member_next b t member next (value x xs) d h some =
       up_to = omega (arith, h.counted, here.next);
     }
 
-pub member_item : (b : List ℕ) (t : List Entry) (member next : ℕ) (left : Values) (d : Entry) → AreMembersOn b t member next left → member < next → HasItem b t member
-member_item b t member next left d h some = let n = member_next b t member next left d h some in (n.first, n.on)
+-- the room that is left for a member, with what is before it, where the whole array had room
+pub member_room : (b : List ℕ) (t : List Entry) (old out : List ℕ) (at place member next end : ℕ) (xs : Values) (e : Entry) → place ≤ member → at + length (notation (array xs)) ≤ length old → (s : AreMembersShown b t old out at (member - place) member next end xs) → (n : IsMemberNext b t member next s.left e) →
+    end + length (comma (member - place) ++ notation n.first) ≤ length out
+member_room b t old out at place member next end xs e from room s n =
+    let i : ℕ = member - place in
+    let j : ℕ = e.next - place in
+    let some : 0 < j = omega (arith, n.ahead) in
+    let left = members_from j n.more in
+    let own = comma i ++ notation n.first in
+    let split : members_from i s.left ≡ own ++ left = ap (members_from i) n.split ∙ (members_from-value i j n.first n.more some ∙ sym (append_assoc (comma i) (notation n.first) left)) in
+    omega (arith, room, s.put.placed, s.put.long, ap length s.all, ap length split, length-append s.done (members_from i s.left), length-append own left, length-append (members_notation xs) (codes "]"))
+
+-- the room that is left for the end
+pub bracket_room : (b : List ℕ) (t : List Entry) (old out : List ℕ) (at before member next end : ℕ) (xs : Values) → at + length (notation (array xs)) ≤ length old → (s : AreMembersShown b t old out at before member next end xs) → end + length (codes "]") ≤ length out
+bracket_room b t old out at before member next end xs room s =
+    omega (arith, room, s.put.placed, s.put.long, ap length s.all, length-append s.done (members_from before s.left), length-append (members_notation xs) (codes "]"))
 
 pub one_member : (b : List ℕ) (t : List Entry) (old out mid new : List ℕ) (at place member next end middle after : ℕ) (xs : Values) (e : Entry) → place ≤ member → (s : AreMembersShown b t old out at (member - place) member next end xs) → (n : IsMemberNext b t member next s.left e) →
     IsPut out mid end (comma (member - place)) middle → IsPut mid new middle (notation n.first) after → AreMembersShown b t old new at (e.next - place) e.next next after xs

@@ -1,5 +1,5 @@
 -- The pairs of a map, shown one after the other.
-use Rattle.std.proofs.Common.{◌≡◌, ℕ, zero, suc, ◌-◌, ◌<◌, ◌≤◌, List, [], ◌++◌, get_or, refl, sym, ap, ◌∙◌, subst, arith, append_assoc, append-nil}
+use Rattle.std.proofs.Common.{◌≡◌, ℕ, zero, suc, ◌+◌, ◌-◌, ◌<◌, ◌≤◌, List, [], ◌++◌, length, get_or, refl, sym, ap, ◌∙◌, subst, arith, append_assoc, append-nil, length-append}
 use Rattle.std.specs.Prelude.{codes}
 use Rattle.cbor_data.specs.Notation.{notation, pairs_notation, further_pairs_notation}
 use Rattle.cbor_data.specs.Value.{Value, Pairs, no_pairs, pair, places, pairs_places, pairs}
@@ -77,6 +77,25 @@ pair_next b t key next (pair k v ps) d h some =
         counted = omega (arith, h.counted, key_here.next, value_here.next);
       };
     }
+
+-- the room that is left for a pair, with what is before it, where the whole map had room
+pub pair_room : (b : List ℕ) (t : List Entry) (old out : List ℕ) (at place key next end : ℕ) (ps : Pairs) (d : Entry) → place ≤ key → at + length (notation (pairs ps)) ≤ length old → (s : ArePairsShown b t old out at (key - place) key next end ps) → (n : IsPairNext b t key next s.left d) →
+    end + length (comma (key - place) ++ (notation n.first ++ (codes ": " ++ notation n.second))) ≤ length out
+pair_room b t old out at place key next end ps d from room s n =
+    let i : ℕ = key - place in
+    let beyond : ℕ = (get_or t (get_or t key d).next d).next in
+    let j : ℕ = beyond - place in
+    let some : 0 < j = omega (arith, n.key_here.next, n.key_here.some, n.value_here.next) in
+    let left = pairs_from j n.more in
+    let own = comma i ++ (notation n.first ++ (codes ": " ++ notation n.second)) in
+    let regroup : own ++ left ≡ comma i ++ (notation n.first ++ (codes ": " ++ (notation n.second ++ left))) = simp append_assoc in
+    let split : pairs_from i s.left ≡ own ++ left = ap (pairs_from i) n.split ∙ (pairs_from-pair i j n.first n.second n.more some ∙ sym regroup) in
+    omega (arith, room, s.put.placed, s.put.long, ap length s.all, ap length split, length-append s.done (pairs_from i s.left), length-append own left, length-append (pairs_notation ps) (codes "}"))
+
+-- the room that is left for the end
+pub brace_room : (b : List ℕ) (t : List Entry) (old out : List ℕ) (at before key next end : ℕ) (ps : Pairs) → at + length (notation (pairs ps)) ≤ length old → (s : ArePairsShown b t old out at before key next end ps) → end + length (codes "}") ≤ length out
+brace_room b t old out at before key next end ps room s =
+    omega (arith, room, s.put.placed, s.put.long, ap length s.all, length-append s.done (pairs_from before s.left), length-append (pairs_notation ps) (codes "}"))
 
 pub one_pair : (b : List ℕ) (t : List Entry) (old out o1 o2 o3 new : List ℕ) (at place key next end e1 e2 e3 after : ℕ) (ps : Pairs) (d : Entry) → place ≤ key → (s : ArePairsShown b t old out at (key - place) key next end ps) → (n : IsPairNext b t key next s.left d) →
     IsPut out o1 end (comma (key - place)) e1 → IsPut o1 o2 e1 (notation n.first) e2 → IsPut o2 o3 e2 (codes ": ") e3 → IsPut o3 new e3 (notation n.second) after →

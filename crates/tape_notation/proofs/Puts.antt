@@ -1,82 +1,90 @@
 -- Texts that are put one after the other.
-use Rattle.std.proofs.Common.{◌≡◌, ℕ, ◌+◌, ◌/◌, ◌%◌, ◌<◌, ◌≤◌, List, [], ◌∷◌, ◌++◌, length, take, drop, get_or, refl, sym, ap, ◌∙◌, subst, arith, append_assoc, append-nil, length-drop, Result, IfOk}
-use Rattle.std.proofs.lemmas.List.{take-take, take_more}
+use Rattle.std.proofs.Common.{◌≡◌, ℕ, ◌+◌, ◌/◌, ◌%◌, ◌<◌, ◌≤◌, List, [], ◌∷◌, ◌++◌, length, take, drop, get_or, refl, sym, ap, ◌∙◌, subst, arith, append_assoc, append-nil, length-append}
+use Rattle.std.proofs.lemmas.List.{take_at, take_more, take-append-drop}
 use Rattle.std.proofs.Math.Seq.{take-add}
-use Rattle.std.proofs.lemmas.Result.{IfOk-weaker}
-use Rattle.std.specs.declared.alloc.AllocError.{AllocError}
-use Rattle.std.specs.Prelude.{flat_map, slice_index}
-use Rattle.std.proofs.lemmas.Grind.{flat_map-append}
+use Rattle.std.specs.Prelude.{slice_index}
 use Rattle.hex.specs.Hex.{encode_with, encode_lower, lower_digits}
 use Rattle.cbor_data.specs.Forms.{Form, meaning}
-use Rattle.cbor_data.specs.Notation.{notation, shown_byte}
+use Rattle.cbor_data.specs.Notation.{notation}
 use Rattle.tape_notation.specs.Heads.{IsFormAt}
-use Rattle.tape_notation.specs.Put.{IsPut, IsRunPut}
+use Rattle.tape_notation.specs.Put.{IsPut}
 
 pub more_put : (old mid new : List ℕ) (at middle end : ℕ) (s t : List ℕ) → IsPut old mid at s middle → IsPut mid new middle t end → IsPut old new at (s ++ t) end
 more_put old mid new at middle end s t h k = record {
+  placed = omega (arith, h.placed, k.placed, length-append s t);
   within = k.within;
+  long = k.long ∙ h.long;
   is = k.is ∙ (ap (λ r. r ++ t) h.is ∙ append_assoc (take at old) s t);
 }
 
 pub none_put : (old : List ℕ) (at : ℕ) → at ≤ length old → IsPut old old at [] at
-none_put old at within = record { within = within; is = sym (append-nil (take at old)) }
+none_put old at within = record { placed = omega arith; within = within; long = refl; is = sym (append-nil (take at old)) }
 
 pub same_put : {old new : List ℕ} {at end : ℕ} (s t : List ℕ) → s ≡ t → IsPut old new at s end → IsPut old new at t end
 same_put {old} {new} {at} {end} s t is h = subst (λ r. IsPut old new at r end) is h
 
--- what a call puts last
-pub last_put : (r : Result ℕ AllocError) (old mid new : List ℕ) (at middle : ℕ) (s t u : List ℕ) → IsPut old mid at s middle → s ++ t ≡ u → IfOk r (λ e. IsPut mid new middle t e) → IfOk r (λ e. IsPut old new at u e)
-last_put r old mid new at middle s t u h is k = IfOk-weaker r (λ e. IsPut mid new middle t e) (λ e. IsPut old new at u e) (λ e p. same_put (s ++ t) u is (more_put old mid new at middle e s t h p)) k
-
--- what a call puts, seen otherwise
-pub known_put : (r : Result ℕ AllocError) (old new : List ℕ) (at : ℕ) (s t : List ℕ) → s ≡ t → IfOk r (λ e. IsPut old new at s e) → IfOk r (λ e. IsPut old new at t e)
-known_put r old new at s t is k = subst (λ u. IfOk r (λ e. IsPut old new at u e)) is k
-
--- what stands before a front stands there still where the front is as it was
-pub front_kept : (old new : List ℕ) (at : ℕ) → at ≤ length old → take (length old) new ≡ old → take at new ≡ take at old
-front_kept old new at within same = sym (take-take at (length old) new within) ∙ ap (take at) same
-
--- runs of a text, one after the other
-pub one_run : (old mid new : List ℕ) (at : ℕ) (bs : List ℕ) (read after end next : ℕ) → IsPut old mid at (flat_map shown_byte (take read bs)) end → IsRunPut mid new end bs read after next → IsPut old new at (flat_map shown_byte (take after bs)) next
-one_run old mid new at bs read after end next h r =
-    let seen = r.put.0 in
-    same_put (flat_map shown_byte (take read bs) ++ flat_map shown_byte seen) (flat_map shown_byte (take after bs))
-    (sym (flat_map-append shown_byte (take read bs) seen) ∙ ap (flat_map shown_byte) (sym r.put.1))
-    (more_put old mid new at end next (flat_map shown_byte (take read bs)) (flat_map shown_byte seen) h r.put.2)
-
--- what is shown as it is, and the byte after it
-pub run_put : (b old mid new run : List ℕ) (read plain at end after : ℕ) → run ≡ drop read b → read < length b → plain < length run → flat_map shown_byte (take plain run) ≡ take plain run → IsPut old mid at (take plain run) end → IsPut mid new end (shown_byte (get_or run plain 0)) after → IsRunPut old new at b read (read + plain + 1) after
-run_put b old mid new run read plain at end after is some within same h k =
-    let count : read + plain + 1 ≡ read + (plain + 1) = omega arith in
-    let seen = take plain run ++ get_or run plain 0 ∷ [] in
-    let more : take (plain + 1) run ≡ seen = take_more run plain 0 within in
-    let shown : take plain run ++ shown_byte (get_or run plain 0) ≡ flat_map shown_byte seen =
-    sym (flat_map-append shown_byte (take plain run) (get_or run plain 0 ∷ []) ∙ (ap (λ r. r ++ (shown_byte (get_or run plain 0) ++ [])) same ∙ ap (λ r. take plain run ++ r) (append-nil (shown_byte (get_or run plain 0))))) in
-    record {
-      on = omega arith;
-      all = omega (arith, within, ap length is, length-drop read b);
-      put = (
-        seen,
-        ap (λ n. take n b) count ∙ (take-add read (plain + 1) b ∙ ap (λ r. take read b ++ r) (ap (take (plain + 1)) (sym is) ∙ more)),
-        same_put (take plain run ++ shown_byte (get_or run plain 0)) (flat_map shown_byte seen) shown (more_put old mid new at end after (take plain run) (shown_byte (get_or run plain 0)) h k),
-      );
-    }
-
-pub encode_lower-nil : encode_lower [] ≡ []
-unfolding encode_with
-encode_lower-nil = refl
-
-pub encode_lower-append : (xs ys : List ℕ) → encode_lower (xs ++ ys) ≡ encode_lower xs ++ encode_lower ys
-unfolding encode_with
-encode_lower-append [] ys = refl
-encode_lower-append (x ∷ xs) ys = ap (λ r. slice_index lower_digits (x / 16) ∷ (slice_index lower_digits (x % 16) ∷ r)) (encode_lower-append xs ys)
+-- a whole vector that was lent as a slice
+pub whole_slice : (lent items new : List ℕ) (len : ℕ) → length new ≡ length lent → length lent ≡ len → take len (new ++ drop (length new) items) ≡ new
+whole_slice lent items new len long all = take_at new (drop (length new) items) len (long ∙ all)
 
 -- three texts, one after the other
 pub three_put : {o0 o1 o2 o3 : List ℕ} {at second third end : ℕ} (s t u : List ℕ) → IsPut o0 o1 at s second → IsPut o1 o2 second t third → IsPut o2 o3 third u end → IsPut o0 o3 at (s ++ (t ++ u)) end
 three_put {o0} {o1} {o2} {o3} {at} {second} {third} {end} s t u h k l = more_put o0 o1 o3 at second end s (t ++ u) h (more_put o1 o2 o3 second third end t u k l)
 
+-- what is left of room after the front of a text
+pub room_left : {old new : List ℕ} {at end : ℕ} (s t : List ℕ) → at + length (s ++ t) ≤ length old → IsPut old new at s end → end + length t ≤ length new
+room_left {old} {new} {at} {end} s t room h = omega (arith, room, h.placed, h.long, length-append s t)
+
+-- room for a text is room for its front
+pub room_front : (at len : ℕ) (s t : List ℕ) → at + length (s ++ t) ≤ len → at + length s ≤ len
+room_front at len s t room = omega (arith, room, length-append s t)
+
+pub room_for : (at len : ℕ) (s t : List ℕ) → s ≡ t → at + length s ≤ len → at + length t ≤ len
+room_for at len s t same room = subst (λ r. at + length r ≤ len) same room
+
+-- Images of bytes, each of which is that of the front and that of the rest.
+abbrev pub Splits : (List ℕ → List ℕ) → Type 0
+Splits image = (xs ys : List ℕ) → image (xs ++ ys) ≡ image xs ++ image ys
+
+image_halves : (image : List ℕ → List ℕ) → Splits image → (n : ℕ) (bs : List ℕ) → image bs ≡ image (take n bs) ++ image (drop n bs)
+image_halves image splits n bs = ap image (sym (take-append-drop n bs)) ∙ splits (take n bs) (drop n bs)
+
+pub front_room : (image : List ℕ → List ℕ) → Splits image → (at len n : ℕ) (bs : List ℕ) → at + length (image bs) ≤ len → at + length (image (take n bs)) ≤ len
+front_room image splits at len n bs room = room_front at len (image (take n bs)) (image (drop n bs)) (room_for at len (image bs) (image (take n bs) ++ image (drop n bs)) (image_halves image splits n bs) room)
+
+pub rest_room : (image : List ℕ → List ℕ) → Splits image → (old new : List ℕ) (at n end : ℕ) (bs : List ℕ) → at + length (image bs) ≤ length old → IsPut old new at (image (take n bs)) end → end + length (image (drop n bs)) ≤ length new
+rest_room image splits old new at n end bs room put = room_left (image (take n bs)) (image (drop n bs)) (room_for at (length old) (image bs) (image (take n bs) ++ image (drop n bs)) (image_halves image splits n bs) room) put
+
+-- the front, and the rest
+pub front_rest : (image : List ℕ → List ℕ) → Splits image → (old mid new : List ℕ) (at n end after : ℕ) (bs : List ℕ) → IsPut old mid at (image (take n bs)) end → IsPut mid new end (image (drop n bs)) after → IsPut old new at (image bs) after
+front_rest image splits old mid new at n end after bs h k = same_put (image (take n bs) ++ image (drop n bs)) (image bs) (sym (image_halves image splits n bs)) (more_put old mid new at end after (image (take n bs)) (image (drop n bs)) h k)
+
+-- so many bytes more
+pub run_more : (image : List ℕ → List ℕ) → Splits image → (old mid new : List ℕ) (at read n end after : ℕ) (bs : List ℕ) → IsPut old mid at (image (take read bs)) end → IsPut mid new end (image (take n (drop read bs))) after → IsPut old new at (image (take (read + n) bs)) after
+run_more image splits old mid new at read n end after bs h k =
+    same_put (image (take read bs) ++ image (take n (drop read bs))) (image (take (read + n) bs)) (sym (ap image (take-add read n bs) ∙ splits (take read bs) (take n (drop read bs))))
+    (more_put old mid new at end after (image (take read bs)) (image (take n (drop read bs))) h k)
+
+-- one byte more
+pub byte_more : (image : List ℕ → List ℕ) → Splits image → (old mid new : List ℕ) (at i end after : ℕ) (bs : List ℕ) → i < length bs → IsPut old mid at (image (take i bs)) end → IsPut mid new end (image (get_or bs i 0 ∷ [])) after → IsPut old new at (image (take (i + 1) bs)) after
+byte_more image splits old mid new at i end after bs within h k =
+    same_put (image (take i bs) ++ image (get_or bs i 0 ∷ [])) (image (take (i + 1) bs)) (sym (ap image (take_more bs i 0 within) ∙ splits (take i bs) (get_or bs i 0 ∷ [])))
+    (more_put old mid new at end after (image (take i bs)) (image (get_or bs i 0 ∷ [])) h k)
+
+pub byte_room : (image : List ℕ → List ℕ) → Splits image → (old new : List ℕ) (at i end : ℕ) (bs : List ℕ) → at + length (image bs) ≤ length old → i < length bs → IsPut old new at (image (take i bs)) end → end + length (image (get_or bs i 0 ∷ [])) ≤ length new
+byte_room image splits old new at i end bs room within put =
+    let front = front_room image splits at (length old) (i + 1) bs room in
+    room_left (image (take i bs)) (image (get_or bs i 0 ∷ [])) (room_for at (length old) (image (take (i + 1) bs)) (image (take i bs) ++ image (get_or bs i 0 ∷ [])) (ap image (take_more bs i 0 within) ∙ splits (take i bs) (get_or bs i 0 ∷ [])) front) put
+
+pub encode_lower-nil : encode_lower [] ≡ []
+unfolding encode_with
+encode_lower-nil = refl
+
+pub encode_lower-append : Splits encode_lower
+unfolding encode_with
+encode_lower-append [] ys = refl
+encode_lower-append (x ∷ xs) ys = ap (λ r. slice_index lower_digits (x / 16) ∷ (slice_index lower_digits (x % 16) ∷ r)) (encode_lower-append xs ys)
+
 -- what is put is the notation of each form that is there
-pub forms_put : (r : Result ℕ AllocError) (b : List ℕ) (head : ℕ) (old new : List ℕ) (at : ℕ) (s : List ℕ) → ((f : Form) → IsFormAt b head f → s ≡ notation (meaning f)) → IfOk r (λ e. IsPut old new at s e) →
-    IfOk r (λ e. (f : Form) → IsFormAt b head f → IsPut old new at (notation (meaning f)) e)
-forms_put r b head old new at s same k =
-    IfOk-weaker r (λ e. IsPut old new at s e) (λ e. (f : Form) → IsFormAt b head f → IsPut old new at (notation (meaning f)) e) (λ e p f h. same_put s (notation (meaning f)) (same f h) p) k
+pub forms_put : (b : List ℕ) (head : ℕ) (old new : List ℕ) (at end : ℕ) (s : List ℕ) → ((f : Form) → IsFormAt b head f → s ≡ notation (meaning f)) → IsPut old new at s end → (f : Form) → IsFormAt b head f → IsPut old new at (notation (meaning f)) end
+forms_put b head old new at end s same put f h = same_put s (notation (meaning f)) (same f h) put

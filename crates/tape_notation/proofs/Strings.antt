@@ -8,7 +8,7 @@ use Rattle.tape_notation.specs.Put.{IsPut}
 use Rattle.tape_notation.proofs.Forms.{IsStringAt}
 use Rattle.cbor_tape.proofs.Lemmas.{info_of, info_below}
 use Rattle.tape_notation.proofs.Heads.{byte_at, head_there}
-use Rattle.tape_notation.proofs.Puts.{more_put, same_put}
+use Rattle.tape_notation.proofs.Puts.{Splits, more_put, same_put}
 
 -- the content of a string whose head was read
 pub record IsContent (b : List ℕ) (at start n : ℕ) (s rest : List ℕ) : Type 0 where
@@ -95,7 +95,16 @@ none_left major b chunk (c ∷ cs) small h end =
         let tail = c.content ++ (chunks_bytes major cs ++ 255 ∷ h.after) in
         (head_there b chunk major (length c.content) c.size tail h.ok.0.0 (h.is ∙ (append_assoc (head ++ c.content) (chunks_bytes major cs) (255 ∷ h.after) ∙ append_assoc head c.content (chunks_bytes major cs ++ 255 ∷ h.after)))).info
 
-pub one_chunk : (image : List ℕ → List ℕ) → ((xs ys : List ℕ) → image (xs ++ ys) ≡ image xs ++ image ys) → (major : ℕ) (b old mid new : List ℕ) (at chunk end start n after : ℕ) (cs : List Chunk) → (s : AreShown image major b old mid at chunk end cs) → (f : IsChunkFirst major b chunk s.left) →
+-- the room that is left for a chunk, where all chunks had room
+pub chunk_room : (image : List ℕ → List ℕ) → Splits image → (major : ℕ) (b old out : List ℕ) (at chunk end start n : ℕ) (cs : List Chunk) → at + length (image (joined cs)) ≤ length old → (s : AreShown image major b old out at chunk end cs) → (f : IsChunkFirst major b chunk s.left) →
+    IsContent b chunk start n f.content f.string.rest → end + length (image (take n (drop start b))) ≤ length out
+chunk_room image splits major b old out at chunk end start n cs room s f c =
+    let own = image f.content in
+    let left = image (joined f.more) in
+    let split : image (joined cs) ≡ image s.done ++ (own ++ left) = ap image (s.all ∙ ap (λ r. s.done ++ r) f.holds) ∙ (splits s.done (f.content ++ joined f.more) ∙ ap (λ r. image s.done ++ r) (splits f.content (joined f.more))) in
+    omega (arith, room, s.put.placed, s.put.long, ap length split, ap (λ r. length (image r)) c.is, length-append (image s.done) (own ++ left), length-append own left)
+
+pub one_chunk : (image : List ℕ → List ℕ) → Splits image → (major : ℕ) (b old mid new : List ℕ) (at chunk end start n after : ℕ) (cs : List Chunk) → (s : AreShown image major b old mid at chunk end cs) → (f : IsChunkFirst major b chunk s.left) →
     IsContent b chunk start n f.content f.string.rest → IsPut mid new end (image (take n (drop start b))) after → AreShown image major b old new at (start + n) after cs
 one_chunk image splits major b old mid new at chunk end start n after cs s f c put = record {
   left = f.more;

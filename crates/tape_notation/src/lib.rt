@@ -3,6 +3,7 @@
 
 mod chunks;
 mod head;
+mod hex_digits;
 mod item;
 mod leaf;
 mod put;

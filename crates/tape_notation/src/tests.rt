@@ -89,6 +89,54 @@ fn strings(rt: HostRuntime) -> Result<(), AllocError> {
 }
 
 #[test]
+fn numbers_of_each_length(rt: HostRuntime) -> Result<(), AllocError> {
+    let alloc = rt.alloc();
+    let items: [(&[u8], &[u8]); 9] = [
+        (b"\x09", b"9"),
+        (b"\x0a", b"10"),
+        (b"\x18\x63", b"99"),
+        (b"\x19\x03\xe7", b"999"),
+        (b"\x19\x27\x0f", b"9999"),
+        (b"\x19\x27\x10", b"10000"),
+        (b"\x1a\x05\xf5\xe0\xff", b"99999999"),
+        (b"\x1a\x05\xf5\xe1\x00", b"100000000"),
+        (
+            b"\x3b\x8a\xc7\x23\x04\x89\xe7\xff\xff",
+            b"-10000000000000000000",
+        ),
+    ];
+    assert!(rt; all_shown(alloc, &items)?);
+    Ok(())
+}
+
+#[test]
+fn strings_of_many_bytes(rt: HostRuntime) -> Result<(), AllocError> {
+    let alloc = rt.alloc();
+    let items: [(&[u8], &[u8]); 6] = [
+        (b"\x43\x09\x0a\xa0", b"h'090aa0'"),
+        (
+            b"\x48\x00\x11\x22\x33\x44\x55\x66\x77",
+            b"h'0011223344556677'",
+        ),
+        (
+            b"\x58\x1f0123456789abcdefghijklmnopqrstu",
+            b"h'303132333435363738396162636465666768696a6b6c6d6e6f707172737475'",
+        ),
+        (b"\x68a plain ", b"\"a plain \""),
+        (
+            b"\x78\x1b0123456789abcdefghijklmn\"op",
+            b"\"0123456789abcdefghijklmn\\\"op\"",
+        ),
+        (
+            b"\x78\x19\\123456789abcdefghijklm\x7fn",
+            b"\"\\\\123456789abcdefghijklm\\u007fn\"",
+        ),
+    ];
+    assert!(rt; all_shown(alloc, &items)?);
+    Ok(())
+}
+
+#[test]
 fn simple_values_and_floats(rt: HostRuntime) -> Result<(), AllocError> {
     let alloc = rt.alloc();
     let items: [(&[u8], &[u8]); 10] = [
@@ -138,9 +186,9 @@ fn containers(rt: HostRuntime) -> Result<(), AllocError> {
 }
 
 #[test]
-fn room_is_made_again(rt: HostRuntime) -> Result<(), AllocError> {
+fn room_is_enough_for_the_longest(rt: HostRuntime) -> Result<(), AllocError> {
     let alloc = rt.alloc();
-    // 400 times simple(19), of 12 bytes for each of the item's, with what parts them
+    // 400 times simple(19), of 12 bytes for each of the item's, with what parts them: no item has a longer notation for its bytes
     let mut bytes = Vec::from_slice(alloc, b"\x99\x01\x90")?;
     let mut text = Vec::from_slice(alloc, b"[simple(19)")?;
     bytes.push(0xf3)?;

@@ -1,89 +1,120 @@
 //! Texts between quotes, in which some bytes are shown by others.
-ghost use Rattle.std.specs.Prelude.{◌≡◌, ◌≢◌, ◌<◌, ◌≤◌, ◌↔◌, ◌++◌, ◌∷◌, [], length, slice_index, take, flat_map, IfOk, IsTrue};
+ghost use Rattle.std.specs.Prelude.{◌≡◌, ◌+◌, ◌≤◌, ◌↔◌, ◌∷◌, [], length, flat_map, IsTrue};
 ghost use Rattle.cbor_data.specs.Notation.{shown_byte, text_notation};
-ghost use Rattle.tape_notation.specs.Put.{IsPut, IsRunPut};
+ghost use Rattle.tape_notation.specs.Put.{IsPut};
 
-use crate::put::{put, put_hex};
-use std::alloc::AllocError;
+use crate::hex_digits::put_hex_run;
+use crate::put::{put, put_byte};
+
+// So many bytes are looked at at once.
+const RUN: usize = 16;
+
+const HALF: usize = 8;
 
 /// Puts the text between quotes.
-pub(crate) fn put_text(out: &mut Vec<u8>, at: usize, bytes: &[u8]) -> Result<usize, AllocError>
-    requires { at ≤ length out.old.items }
-    ensures { IfOk result (λ end. IsPut out.old.items out.new.items at (text_notation bytes.now) end) }
+pub(crate) fn put_text(out: &mut [u8], at: usize, bytes: &[u8]) -> usize
+    requires { at + length (text_notation bytes.now) ≤ length out.old }
+    ensures { IsPut out.old out.new at (text_notation bytes.now) result }
 {
-    let inner = put(out, at, b"\"")?;
-    let end = put_shown(out, inner, bytes)?;
+    let inner = put(out, at, b"\"");
+    let end = put_shown(out, inner, bytes);
     put(out, end, b"\"")
 }
 
 /// Puts the text as it is shown between quotes.
-pub(crate) fn put_shown(out: &mut Vec<u8>, at: usize, bytes: &[u8]) -> Result<usize, AllocError>
-    requires { at ≤ length out.old.items }
-    ensures { IfOk result (λ end. IsPut out.old.items out.new.items at (flat_map shown_byte bytes.now) end) }
+pub(crate) fn put_shown(out: &mut [u8], at: usize, bytes: &[u8]) -> usize
+    requires { at + length (flat_map shown_byte bytes.now) ≤ length out.old }
+    ensures { IsPut out.old out.new at (flat_map shown_byte bytes.now) result }
 {
     let mut end = at;
     let mut read = 0;
-    while read < bytes.len() {
-        let (after, shown) = put_run(out, end, bytes, read)?;
-        read = after;
-        end = shown;
+    while bytes.len() - read >= RUN {
+        end = put_run(out, end, &bytes[read..read + RUN]);
+        read += RUN;
     }
-    Ok(end)
+    put_rest(out, end, &bytes[read..])
 }
 
-// Puts what is from `read` on: the bytes that are shown as themselves, and the one after them. Answers up to where these are, and
-// where what is put ends.
-fn put_run(
-    out: &mut Vec<u8>,
-    at: usize,
-    bytes: &[u8],
-    read: usize,
-) -> Result<(usize, usize), AllocError>
-    requires room { at ≤ length out.old.items }
-    requires some { read < length bytes.now }
-    ensures { IfOk result (λ r. IsRunPut out.old.items out.new.items at bytes.now read r.0 r.1) }
+// The same of fewer bytes than are looked at at once: first half as many, and then byte by byte.
+#[inline(always)]
+fn put_rest(out: &mut [u8], at: usize, bytes: &[u8]) -> usize
+    requires { at + length (flat_map shown_byte bytes.now) ≤ length out.old }
+    ensures { IsPut out.old out.new at (flat_map shown_byte bytes.now) result }
 {
-    let run = &bytes[read..];
-    let plain = plain_len(run);
-    let end = put(out, at, &run[..plain])?;
-    if plain == run.len() {
-        return Ok((bytes.len(), end));
+    if bytes.len() < HALF {
+        return put_each(out, at, bytes);
     }
-    let after = put_shown_byte(out, end, run[plain])?;
-    Ok((read + plain + 1, after))
+    let end = put_run(out, at, &bytes[..HALF]);
+    put_each(out, end, &bytes[HALF..])
 }
 
-// How many bytes at the front are shown as themselves.
-fn plain_len(bytes: &[u8]) -> usize
-    ensures within { result ≤ length bytes.now }
-    ensures plain { flat_map shown_byte (take result bytes.now) ≡ take result bytes.now }
-    ensures longest { result < length bytes.now → shown_byte (slice_index bytes.now result) ≢ slice_index bytes.now result ∷ [] }
+// The same of a few bytes, which are mostly shown as themselves. It is to stand in its callers, which know how many there are.
+#[inline(always)]
+fn put_run(out: &mut [u8], at: usize, run: &[u8]) -> usize
+    requires { at + length (flat_map shown_byte run.now) ≤ length out.old }
+    ensures { IsPut out.old out.new at (flat_map shown_byte run.now) result }
 {
-    for (i, byte) in bytes.iter().enumerate() {
-        if !is_plain(*byte) {
-            return i;
-        }
+    if are_plain(run) {
+        return put(out, at, run);
     }
-    bytes.len()
+    put_each(out, at, run)
 }
 
+// The same, byte by byte.
+fn put_each(out: &mut [u8], at: usize, bytes: &[u8]) -> usize
+    requires { at + length (flat_map shown_byte bytes.now) ≤ length out.old }
+    ensures { IsPut out.old out.new at (flat_map shown_byte bytes.now) result }
+{
+    let mut end = at;
+    for i in 0..bytes.len() {
+        end = put_shown_byte(out, end, bytes[i]);
+    }
+    end
+}
+
+// Whether all are shown as themselves. It goes over all of them, so that it needs no loop where their number is known.
+#[inline(always)]
+fn are_plain(bytes: &[u8]) -> bool
+    ensures { IsTrue result → flat_map shown_byte bytes.now ≡ bytes.now }
+{
+    let mut plain = true;
+    for byte in bytes {
+        plain &= is_plain(*byte);
+    }
+    plain
+}
+
+#[inline(always)]
 fn is_plain(byte: u8) -> bool
     ensures { IsTrue result ↔ (shown_byte byte ≡ byte ∷ []) }
 {
-    !matches!(byte, b'"' | b'\\' | 0..32 | 127)
+    byte >= 32 && byte != b'"' && byte != b'\\' && byte != 127
 }
 
-fn put_shown_byte(out: &mut Vec<u8>, at: usize, byte: u8) -> Result<usize, AllocError>
-    requires { at ≤ length out.old.items }
-    ensures { IfOk result (λ end. IsPut out.old.items out.new.items at (shown_byte byte) end) }
+#[inline(always)]
+fn put_shown_byte(out: &mut [u8], at: usize, byte: u8) -> usize
+    requires { at + length (shown_byte byte) ≤ length out.old }
+    ensures { IsPut out.old out.new at (shown_byte byte) result }
+{
+    if is_plain(byte) {
+        return put_byte(out, at, byte);
+    }
+    put_escaped(out, at, byte)
+}
+
+// The same, where it is mostly not shown as itself.
+#[inline(never)]
+fn put_escaped(out: &mut [u8], at: usize, byte: u8) -> usize
+    requires { at + length (shown_byte byte) ≤ length out.old }
+    ensures { IsPut out.old out.new at (shown_byte byte) result }
 {
     match byte {
         b'"' => put(out, at, b"\\\""),
         b'\\' => put(out, at, b"\\\\"),
         0..32 | 127 => {
-            let digits = put(out, at, b"\\u00")?;
-            put_hex(out, digits, &[byte])
+            let digits = put(out, at, b"\\u00");
+            put_hex_run(out, digits, &[byte])
         }
-        _ => put(out, at, &[byte]),
+        _ => put_byte(out, at, byte),
     }
 }

@@ -1,4 +1,4 @@
-use Rattle.std.proofs.Common.{List, ◌≤◌, ◌-◌, length}
+use Rattle.std.proofs.Common.{List, ◌-◌, length}
 use Rattle.hex.specs.Hex.{encode_lower}
 use Rattle.cbor_data.specs.Forms.{Chunk}
 use Rattle.tape_notation.specs.Heads.{AreChunksFrom}
@@ -7,10 +7,7 @@ use Rattle.tape_notation.proofs.chunks.put_byte_chunks.Given as goal
 
 -- the chunks before this one are shown
 abbrev pub invariant-loop-chunk : goal.invariant-loop-chunk
-invariant-loop-chunk l = record {
-  room : l.end ≤ length l.out.items;
-  shown : (cs : List Chunk) → AreChunksFrom 2 l.bytes l.start cs → AreShown encode_lower 2 l.bytes l.fn.out.items l.out.items l.at l.chunk l.end cs;
-}
+invariant-loop-chunk l = (cs : List Chunk) → AreChunksFrom 2 l.bytes l.start cs → AreShown encode_lower 2 l.bytes l.fn.out l.out l.at l.chunk l.end cs
 
 abbrev pub decreases-loop-chunk : goal.decreases-loop-chunk
 decreases-loop-chunk l = length l.bytes - l.chunk

@@ -1,4 +1,4 @@
-use Rattle.std.proofs.Common.{◌≤◌, ◌-◌, length, take}
+use Rattle.std.proofs.Common.{◌≤◌, ◌-◌, take, length}
 use Rattle.std.specs.Prelude.{flat_map}
 use Rattle.cbor_data.specs.Notation.{shown_byte}
 use Rattle.tape_notation.specs.Put.{IsPut}
@@ -8,8 +8,7 @@ use Rattle.tape_notation.proofs.text.put_shown.Given as goal
 abbrev pub invariant-loop-read : goal.invariant-loop-read
 invariant-loop-read l = record {
   within : l.read ≤ length l.bytes;
-  room : l.end ≤ length l.out.items;
-  put : IsPut l.fn.out.items l.out.items l.at (flat_map shown_byte (take l.read l.bytes)) l.end;
+  put : IsPut l.fn.out l.out l.at (flat_map shown_byte (take l.read l.bytes)) l.end;
 }
 
 abbrev pub decreases-loop-read : goal.decreases-loop-read
