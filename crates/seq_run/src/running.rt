@@ -51,12 +51,11 @@ pub enum RunFault {
 /// each accepted item and of the end. It answers the end, and for a mismatch the item that failed.
 ///
 /// What a piece adds to the output is put together and written before the next one is read. Beside the item that is being read
-/// it takes memory for the output of one piece: that of one item, and of items in 4,096 bytes more. In
-/// [`Mode::Deterministic`] it takes what [`cbor_item::write_det`] does, too, to put one item in order.
+/// it takes memory for the output of one piece: that of one item, and of items in 4,096 bytes more, with room for twelve bytes for
+/// each byte of one of these. In [`Mode::Deterministic`] it takes what [`cbor_item::write_det`] does, too, to put one item in order.
 ///
-/// In [`Mode::EndLine`] no item is built that is whole in a piece and is accepted for its major type alone, and in
-/// [`Mode::Report`] no such array, map or tag: it is checked, and its line is written, from its bytes, by a tape
-/// ([`cbor_tape::whole_tape`]) in 48 KiB that are asked for once.
+/// In [`Mode::Report`] and [`Mode::EndLine`] no item is built that is whole in a piece and is accepted for its major type alone:
+/// it is checked, and its line is written, from its bytes, by a tape ([`cbor_tape::whole_tape`]) in 48 KiB that are asked for once.
 ///
 /// # Errors
 ///
@@ -252,16 +251,5 @@ fn take_taped(
     if !writes_lines(mode) || rest.len() > PIECE || rest.len() > tape.len() {
         return None;
     }
-    if !is_quicker(mode, rest) {
-        return None;
-    }
     session.take_taped(rest, tape)
-}
-
-// Whether the tape is quicker for the item at the front of the rest: the line of one without parts is written sooner from memory.
-fn is_quicker(mode: Mode, rest: &[u8]) -> bool {
-    if matches!(mode, Mode::EndLine) {
-        return true;
-    }
-    !rest.is_empty() && (0x80..0xe0).contains(&rest[0])
 }
