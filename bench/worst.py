@@ -116,6 +116,11 @@ def deep_short_strings(size, content=b"\0"):
     return spec, front + head(4, size) + encoded_string(content) * size
 
 
+def nested(size, opening, closing):
+    """So many rules, each of 120 of these in each other."""
+    return rows(size, f"tN = {opening * 120}int{closing * 120} / tM", chr(10)) + f"\nt{size} = 1\n"
+
+
 def levels_of_tags(size):
     """20 strings in each other, each beside an array of tags, of which each is read twice by the one round it."""
     item = b"\0"
@@ -145,7 +150,9 @@ CHECKS = [
     ("joins of a text of 32 KiB", joins, 1000, 2000),
     ("a rule of many parameters", lambda size: generic(size, 1, ""), 256 * KIB, 512 * KIB),
     ("the same, not reached", lambda size: generic(size, 0, ""), 256 * KIB, 512 * KIB),
-    ("rules of 120 choices of groups in each other", lambda size: rows(size, f"tN = {'&(' * 120}int{')' * 120} / tM", chr(10)) + f"\nt{size} = 1\n", 128, 256),
+    ("rules of 120 choices of groups in each other", lambda size: nested(size, "&(", ")"), 128, 256),
+    ("the same, with a parameter in each", lambda size: f"r = [{rows(size, 'tN<int>')}]\n" + rows(size, f"tN<a> = {'&(' * 120}a{')' * 120}", chr(10)), 64, 128),
+    ("rules of 120 maps in each other", lambda size: nested(size, "{1:", "}"), 128, 256),
     ("a list in 120 parentheses", lambda size: f"r = [{'(' * 120}{rows(size, 'N')}{')' * 120}]\n", 10_000, 20_000),
 ]
 SUIT = os.path.join(os.path.dirname(os.path.dirname(os.path.abspath(__file__))), "examples", "suit.cddl")

@@ -46,10 +46,10 @@ pub struct Asked {
 /// of a range, of what items are compared with, of the controller of `.size`, of the left side of a control that computes a
 /// literal and of the whole control, and of the group of a map.
 ///
-/// It costs the parts of the survey times the instances of their rule: for each part its rows are visited once, and then each row
-/// that holds a parameter is hashed once for each instance. The parameters of a rule and the arguments of its instances are
-/// listed once for all parts of the rule that follow one another. Memory is needed for each answer, and for the arguments of
-/// all instances of one rule.
+/// It costs the parts of the survey times the instances of their rule: where the rule has parameters, for each part its rows are
+/// visited once, and then each row that holds a parameter is numbered once for each instance. The parameters of a rule and the
+/// arguments of its instances are listed once for all parts of the rule that follow one another. Memory is needed for each
+/// answer, and for the arguments of all instances of one rule.
 ///
 /// The table grows by rows alone. An error comes where memory is refused, or each number of 32 bits is taken; then some rows may
 /// have been added. It may come, too, where a number of the survey is not of this table.

@@ -3,4 +3,5 @@ pub mod Growing
 pub mod Placing
 pub mod Reading
 pub mod Replacing
+pub mod Unfilled
 pub mod Unfolding

@@ -1,6 +1,6 @@
 //! A table of terms: rows and texts, each with a number, of which no two are equal.
 
-ghost use Rattle.std.specs.Prelude.{◌≡◌, ◌≢◌, ◌<◌, ℕ, IfNone, IfOk, IfSome, Some, [], slice_get, length, option_map, Option};
+ghost use Rattle.std.specs.Prelude.{◌≡◌, ◌≢◌, ◌<◌, ℕ, IfNone, IfOk, IfSome, IsTrue, Some, [], slice_get, length, option_map, Option};
 ghost use Rattle.cddl_language.specs.Terms.{Text};
 ghost use Rattle.check_terms.specs.Numbers.{AreRowNumbers, AreTextNumbers};
 ghost use Rattle.check_terms.specs.Table.{Adds, AddsRow, AddsText, Grows, HasParts, Holds, HoldsText, IsPart, IsTable, Tree, node, texts_in};
@@ -16,15 +16,26 @@ use thiserror::Error;
 #[error("no room for the numbers of terms")]
 pub struct NoRoom;
 
+/// Where a number is looked for before its hash is taken. What is read again mostly comes in the order in which it came before.
+#[derive(Clone, Copy)]
+struct Near {
+    /// The number that was told last.
+    last: u32,
+    /// The number that a hash has told last.
+    found: u32,
+}
+
 /// A table of rows and texts, each with a number. No two are equal, and the parts of a row stand before it.
 #[derive(Drop)]
 pub struct Terms<'s> {
     texts: Vec<&'s str>,
     /// The place of each text in `texts`.
     text_numbers: HashMap<&'s str, u32>,
+    near_text: Near,
     rows: Vec<Row>,
     /// The place of each row in `rows`.
     row_numbers: HashMap<Row, u32>,
+    near_row: Near,
 }
 
 impl<'s> Model for Terms<'s> {
@@ -46,22 +57,31 @@ impl<'s> Terms<'s> {
         Terms {
             texts: Vec::new(alloc),
             text_numbers: HashMap::new(alloc),
+            near_text: Near { last: 0, found: 0 },
             rows: Vec::new(alloc),
             row_numbers: HashMap::new(alloc),
+            near_row: Near { last: 0, found: 0 },
         }
     }
 
-    /// The number of the text, which is added if it isn't there. It costs a hash of the text, and one more where it is added.
+    /// The number of the text, which is added if it isn't there. It costs a hash of the text, and one more where it is added;
+    /// and none where its number is the one after that of the call before.
     pub fn add_text(&mut self, text: &'s str) -> Result<u32, NoRoom>
         ensures there { IfOk result (λ n. slice_get self.new.texts n ≡ Some text.now) }
         ensures adds { AddsText self.old text.now self.new }
         ensures grows { Grows self.old self.new }
     {
-        insert_text(&mut self.texts, &mut self.text_numbers, text)
+        text_number(
+            &mut self.texts,
+            &mut self.text_numbers,
+            &mut self.near_text,
+            text,
+        )
     }
 
     /// The number of the row, which is added if it isn't there. It costs a hash of the row, and one more where it is added,
-    /// whatever its parts stand for.
+    /// whatever its parts stand for; and none where its number is the one after that of the call before. So what was read before
+    /// is read again without a hash for most of its rows.
     pub fn add(&mut self, row: Row) -> Result<u32, NoRoom>
         requires parts { HasParts self.old row }
         ensures there { IfOk result (λ n. slice_get self.new.rows n ≡ Some row) }
@@ -69,7 +89,12 @@ impl<'s> Terms<'s> {
         ensures grows { Grows self.old self.new }
         ensures stands { IfOk result (λ n. (x : Option Text) (a b : Tree) → HoldsText self.old.texts row.text x → Holds self.old row.first a → Holds self.old row.second b → Holds self.new (Some n) (node row.form x a b)) }
     {
-        insert_row(&mut self.rows, &mut self.row_numbers, row)
+        row_number(
+            &mut self.rows,
+            &mut self.row_numbers,
+            &mut self.near_row,
+            row,
+        )
     }
 
     /// The number of the row of this form with this text, if any, and with these parts, each added if it isn't there. It
@@ -166,6 +191,59 @@ impl<'s> Terms<'s> {
     }
 }
 
+// The number of the text, which is looked for near others first.
+fn text_number<'s>(
+    texts: &mut Vec<&'s str>,
+    numbers: &mut HashMap<&'s str, u32>,
+    near: &mut Near,
+    text: &'s str,
+) -> Result<u32, NoRoom>
+    requires numbered { AreTextNumbers numbers.old texts.old.items }
+    ensures there { IfOk result (λ n. slice_get (texts_in texts.new.items) n ≡ Some text.now) }
+    ensures adds { Adds (texts_in texts.old.items) text.now (texts_in texts.new.items) }
+    ensures numbered { AreTextNumbers numbers.new texts.new.items }
+{
+    if let Some(number) = near_text(texts, *near, text) {
+        near.last = number;
+        return Ok(number);
+    }
+    let number = insert_text(texts, numbers, text)?;
+    *near = Near {
+        last: number,
+        found: number,
+    };
+    Ok(number)
+}
+
+// The number of the text, if it comes after the last one, or is the one that a hash has told last.
+fn near_text(texts: &[&str], near: Near, text: &str) -> Option<u32>
+    ensures { IfSome result (λ n. slice_get (texts_in texts.now) n ≡ Some text.now) }
+{
+    let next = near.last.saturating_add(1);
+    if is_text_at(texts, next, text) {
+        return Some(next);
+    }
+    if is_text_at(texts, near.found, text) {
+        return Some(near.found);
+    }
+    None
+}
+
+fn is_text_at(texts: &[&str], number: u32, text: &str) -> bool
+    ensures { IsTrue result → slice_get (texts_in texts.now) number ≡ Some text.now }
+{
+    match text_at(texts, number) {
+        Some(found) => found == text,
+        None => false,
+    }
+}
+
+fn text_at<'s>(texts: &[&'s str], number: u32) -> Option<&'s str>
+    ensures { option_map (λ t. t.now) result ≡ slice_get (texts_in texts.now) number }
+{
+    texts.get(number as usize).copied()
+}
+
 fn insert_text<'s>(
     texts: &mut Vec<&'s str>,
     numbers: &mut HashMap<&'s str, u32>,
@@ -189,6 +267,53 @@ fn insert_text<'s>(
         return Err(NoRoom);
     }
     Ok(number)
+}
+
+// The number of the row, which is looked for near others first.
+fn row_number(
+    rows: &mut Vec<Row>,
+    numbers: &mut HashMap<Row, u32>,
+    near: &mut Near,
+    row: Row,
+) -> Result<u32, NoRoom>
+    requires numbered { AreRowNumbers numbers.old rows.old.items }
+    ensures there { IfOk result (λ n. slice_get rows.new.items n ≡ Some row) }
+    ensures adds { Adds rows.old.items row rows.new.items }
+    ensures numbered { AreRowNumbers numbers.new rows.new.items }
+{
+    if let Some(number) = near_row(rows, *near, row) {
+        near.last = number;
+        return Ok(number);
+    }
+    let number = insert_row(rows, numbers, row)?;
+    *near = Near {
+        last: number,
+        found: number,
+    };
+    Ok(number)
+}
+
+// The number of the row, if it comes after the last one, or is the one that a hash has told last.
+fn near_row(rows: &[Row], near: Near, row: Row) -> Option<u32>
+    ensures { IfSome result (λ n. slice_get rows.now n ≡ Some row) }
+{
+    let next = near.last.saturating_add(1);
+    if is_row_at(rows, next, row) {
+        return Some(next);
+    }
+    if is_row_at(rows, near.found, row) {
+        return Some(near.found);
+    }
+    None
+}
+
+fn is_row_at(rows: &[Row], number: u32, row: Row) -> bool
+    ensures { IsTrue result → slice_get rows.now number ≡ Some row }
+{
+    match rows.get(number as usize) {
+        Some(found) => *found == row,
+        None => false,
+    }
 }
 
 fn insert_row(rows: &mut Vec<Row>, numbers: &mut HashMap<Row, u32>, row: Row) -> Result<u32, NoRoom>

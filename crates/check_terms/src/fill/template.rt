@@ -1,10 +1,10 @@
 //! A template: a body that is filled with the arguments of each of its instances.
 
-ghost use Rattle.std.specs.Prelude.{◌≡◌, ℕ, List, IfOk, Some, length};
+ghost use Rattle.std.specs.Prelude.{◌≡◌, ℕ, List, [], IfOk, Some, length};
 ghost use Rattle.cddl_language.specs.Terms.{Text};
 ghost use Rattle.check_terms.specs.Definitions.{AreTexts};
 ghost use Rattle.check_terms.specs.Filled.{filled};
-ghost use Rattle.check_terms.specs.Table.{Grows, Holds, Tree};
+ghost use Rattle.check_terms.specs.Table.{Grows, Holds, Table, Tree};
 ghost use Rattle.check_terms.specs.Fill.Slots.{ArePlacesOf};
 ghost use Rattle.check_terms.specs.Fill.Templates.{AreTrees, IsTemplate};
 
@@ -43,7 +43,7 @@ impl Template {
     /// The template of the body of this number, with the parameters that have these places, numbers of texts of the table.
     ///
     /// It costs n log n for the n rows of the body, each row once however often it is shared, and nothing for the parameters
-    /// and the other rows of the table. An error comes only where memory is refused.
+    /// and the other rows of the table; and without parameters nothing at all. An error comes only where memory is refused.
     pub fn new(
         alloc: Global,
         terms: &Terms<'_>,
@@ -52,6 +52,9 @@ impl Template {
     ) -> Result<Template, NoRoom>
         ensures { IfOk result (λ m. (ks : List ℕ) (ps : List Text) (x : Tree) → ArePlacesOf slots.now ks → AreTexts terms.now.texts ks ps → Holds terms.now (Some body) x → IsTemplate terms.now ps m x) }
     {
+        if slots.places.is_empty() {
+            return Ok(unfilled(alloc, body));
+        }
         is_table(terms);
         let rows = rows_of(alloc, terms, body)?;
         template_of(alloc, terms, &slots.places, rows, body)
@@ -88,5 +91,16 @@ impl Template {
             push(&mut made, number)?;
         }
         part(&made, self.place, Some(self.body)).ok_or(NoRoom)
+    }
+}
+
+// The template of a body where there are no parameters: nothing is put into it.
+fn unfilled(alloc: Global, body: u32) -> Template
+    ensures { (t : Table) (x : Tree) → Holds t (Some body) x → IsTemplate t [] result x }
+{
+    Template {
+        body,
+        place: None,
+        steps: Vec::new(alloc),
     }
 }

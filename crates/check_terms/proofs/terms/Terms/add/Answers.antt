@@ -7,12 +7,12 @@ use Rattle.check_terms.proofs.terms.Terms.add.Goals as goal
 
 pub invariant_of-self : goal.invariant_of-self
 invariant_of-self c =
-    let numbered = c.insert_row.ensures.numbered in
-    let is = row-added _ c.args.row _ c.self.invariant.0 (subst (λ t. HasParts t c.args.row) (sym c.self.view_is) c.requires.parts) (numbered_rows _ _ numbered) c.insert_row.ensures.adds in
+    let numbered = c.row_number.ensures.numbered in
+    let is = row-added _ c.args.row _ c.self.invariant.0 (subst (λ t. HasParts t c.args.row) (sym c.self.view_is) c.requires.parts) (numbered_rows _ _ numbered) c.row_number.ensures.adds in
     (is, c.self.invariant.1, numbered)
 
 pub returns-clause-stands : goal.returns-clause-stands
 returns-clause-stands c =
-    let new : Table = record { texts = texts_in c.self.inside.texts.items; rows = c.insert_row.new.rows.items } in
-    let adds : AddsRow c.args.self.now c.args.row new = subst (λ t. AddsRow t c.args.row new) c.self.view_is (refl, c.insert_row.ensures.adds) in
-    ok_then c.insert_row.result _ _ (λ n there. stands c.args.self.now new c.args.row adds n there) c.insert_row.ensures.there
+    let new : Table = record { texts = texts_in c.self.inside.texts.items; rows = c.row_number.new.rows.items } in
+    let adds : AddsRow c.args.self.now c.args.row new = subst (λ t. AddsRow t c.args.row new) c.self.view_is (refl, c.row_number.ensures.adds) in
+    ok_then c.row_number.result _ _ (λ n there. stands c.args.self.now new c.args.row adds n there) c.row_number.ensures.there
