@@ -11,11 +11,10 @@ use Rattle.cddl_meaning.specs.Moves as M
 use Rattle.cddl_meaning.specs.Moves.{Question, Pending, Answered, Replies}
 use Rattle.std.proofs.lemmas.List.Elements.{All-nil, All-push, All-take}
 use Rattle.std.proofs.Math.Nat.{le_trans, min-le_right}
-use Rattle.cddl_match.specs.Entering.{EndIn}
 use Rattle.cddl_match.specs.Open.{AreOpenWith, further}
 use Rattle.cddl_match.proofs.Lemmas.{comes_replies}
 use Rattle.cddl_reasons.specs.Opened.{asked_in, waits_in}
-use Rattle.cddl_reasons.specs.Told.{AreReasons, AreSome, IsCause, IsCount, IsEntryOf, IsReason, links_of, part_of, string_of, strings_of, type_of, has_key}
+use Rattle.cddl_reasons.specs.Told.{AreReasons, AreSome, EndIn, IsCause, IsCount, IsEntryOf, IsReason, links_of, part_of, string_of, strings_of, type_of, has_key}
 use Rattle.cddl_reasons.specs.declared.causes.Cause.{Cause}
 use Rattle.cddl_reasons.specs.declared.causes.Cause.TheVariants as C
 use Rattle.cddl_reasons.specs.declared.causes.Reason.{Reason}

@@ -7,7 +7,6 @@ use Rattle.cddl_meaning.specs.Forms.{Language}
 use Rattle.cddl_meaning.specs.Judges.{Answer, Yes, No, Fails}
 use Rattle.cddl_meaning.specs.Moves as M
 use Rattle.cddl_meaning.specs.Moves.{Replies}
-use Rattle.cddl_match.specs.Entering.{EndIn}
 use Rattle.cddl_match.specs.Machine.{root_question}
 use Rattle.cddl_match.specs.Open.{AreOpenWith}
 use Rattle.table_nodes.specs.Language.{RootSays, language_of}
@@ -24,6 +23,11 @@ use Rattle.cddl_reasons.specs.declared.causes.Cause.TheVariants as C
 use Rattle.cddl_reasons.specs.declared.causes.Holder.{Holder}
 use Rattle.cddl_reasons.specs.declared.causes.Reason.{Reason}
 use Rattle.cddl_reasons.specs.declared.causes.Reasons.{Reasons}
+
+-- The entries that are left are the last ones.
+pub record EndIn {N : Type 0} (es left : List (F.MapEntry N)) : Type 0 where
+  pub first : List (F.MapEntry N)
+  pub whole : es ≡ first ++ left
 
 -- the type that is asked, if one is
 abbrev pub type_of : M.Question TypeId GroupId → List Link

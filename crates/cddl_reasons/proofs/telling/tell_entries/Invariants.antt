@@ -2,9 +2,8 @@ use Rattle.std.proofs.Common.{List, ◌∷◌, length}
 use Rattle.cddl_meaning.specs.Forms as F
 use Rattle.cddl_meaning.specs.Judges as J
 use Rattle.cddl_meaning.specs.Moves as M
-use Rattle.cddl_match.specs.Entering.{EndIn}
 use Rattle.cddl_reasons.specs.Opened.{StandsAt}
-use Rattle.cddl_reasons.specs.Told.{AreSome, IsEntryOf}
+use Rattle.cddl_reasons.specs.Told.{AreSome, EndIn, IsEntryOf}
 use Rattle.match_moves.specs.Views.{question_view}
 use Rattle.table_nodes.specs.Language.{language_of}
 use Rattle.table_nodes.specs.Nodes.{entries_view}
