@@ -1,5 +1,6 @@
 -- What forms show by the major type alone is what the moves reply.
-use Rattle.std.proofs.Common.{◌≡◌, ℕ, zero, suc, ◌+◌, ◌<◌, ◌^◌, List, [], ◌∷◌, Option, Some, Bool, true, false, nat_eq, nat_lt, refl, sym, subst, arith}
+use Rattle.std.proofs.Common.{◌≡◌, ℕ, zero, suc, ◌+◌, ◌<◌, ◌^◌, List, [], ◌∷◌, ◌≤◌, Option, None, Some, Bool, true, false, nat_eq, nat_lt, refl, sym, subst, arith}
+use Rattle.std.specs.Prelude.{IfSome}
 use Rattle.lists.proofs.Lemmas.{same_some}
 use Rattle.cbor_data.specs.Value.{Value}
 use Rattle.cddl_meaning.specs.Forms as F
@@ -22,6 +23,11 @@ module _ {N G : Type 0} (l : Language N G) where
   -- what is said of an item in so many steps, or the steps are spent
   pub told_on : {n : N} (p : ℕ) (x : Value) (says : Bool) (cost steps left : ℕ) → IsTypeTold l n x says cost → p < 2 ^ 64 → cost + left ≡ steps → Says l (OfType n p x) steps left (Replied (test_reply p x says))
   told_on p x says cost steps left a h i = says_on l steps left left (Replied (test_reply p x says)) (a p h) i (answered l left (test_reply p x says))
+
+  -- what is kept, if it may be told
+  pub kept_told : {n : N} (x : Value) (says : Bool) (cost most : ℕ) (o : Option (Bool × ℕ)) → IfSome o (λ it. (it.0 ≡ says) × (it.1 ≡ cost) × (cost ≤ most)) → IsTypeTold l n x says cost → IfSome o (λ it. IsTypeTold l n x it.0 it.1)
+  kept_told x says cost most None h told = tt
+  kept_told {n = n} x says cost most (Some it) h told = subst (λ b. IsTypeTold l n x b it.1) (sym h.0) (subst (λ k. IsTypeTold l n x says k) (sym h.1) told)
 
   pub told_few : {n : N} (p : ℕ) (x : Value) (says : Bool) (cost steps left : ℕ) → IsTypeTold l n x says cost → p < 2 ^ 64 → steps < cost → Says l (OfType n p x) steps left (Stopped Spent)
   told_few p x says cost steps left a h b = few l steps left (a p h) b

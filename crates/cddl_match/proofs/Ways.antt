@@ -139,19 +139,21 @@ module _ {N G : Type 0} (l : Language N G) where
       and_opens (a p x h) (then_comes (subst (λ f. Opens l (OfType m p x) (type_move f p x) 1) e (opens (OfType m p x))) (b p h) refl) (omega (arith, i))
 
   -- an entry of such a type, and a group that leads to one
-  pub by_entry : {g : G} {n m : N} {f : Node N G} {k : ℕ} → l.group_at g ≡ Entry n → IsTypeOf l n m k → l.type_at m ≡ f → IsEntered l g f 0 k
+  pub by_entry : {g : G} {n m : N} {f : Node N G} {k : ℕ} → l.group_at g ≡ Entry n → IsTypeOf l n m k → l.type_at m ≡ f → IsEntered l g n f 0 k
   by_entry {g = g} {n = n} {f = f} {k = k} e a i = record {
     none = λ base q. subst (λ m. Opens l (OfGroup g base q []) m 1) (ap (λ f. group_move f base q []) e) (opens (OfGroup g base q []));
     some = λ base q x xs says m r h b is.
         let one = subst (λ m. Opens l (OfGroup g base q (x ∷ xs)) m 1) (ap (λ f. group_move f base q (x ∷ xs)) e) (opens (OfGroup g base q (x ∷ xs))) in
-        let all = answers (InEntry base xs) (told_behind x says {j = k} a i b refl q h) in
-        subst (λ o. Opens l (OfGroup g base q (x ∷ xs)) o (m + (0 + 1 + (k + 1)))) (sym is) (then_comes one all (omega arith));
+        let all = answers (InEntry base xs) (b q h) in
+        subst (λ o. Opens l (OfGroup g base q (x ∷ xs)) o (m + (0 + 1))) (sym is) (then_comes one all (omega arith));
+    form = λ x says m told. told_behind x says {j = k} a i told refl;
   }
 
-  pub leads_to_entry : {g h : G} {f : Node N G} {j k : ℕ} → IsGroupOf l g h j → IsEntered l h f 0 k → IsEntered l g f j k
+  pub leads_to_entry : {g h : G} {n : N} {f : Node N G} {j k : ℕ} → IsGroupOf l g h j → IsEntered l h n f 0 k → IsEntered l g n f j k
   leads_to_entry a b = record {
     none = λ base q. and_opens (a base q []) (b.none base q) (omega arith);
     some = λ base q x xs says m r i c is. and_opens (a base q (x ∷ xs)) (b.some base q x xs says m r i c is) (omega arith);
+    form = b.form;
   }
 
   -- the group of a round, or of a sequence, is told at once

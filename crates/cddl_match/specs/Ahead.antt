@@ -39,7 +39,12 @@ module _ {N G : Type 0} (l : Language N G) where
   abbrev pub IsTypeTold : N → Value → Bool → ℕ → Type 0
   IsTypeTold n x says k = (p : ℕ) → p < 2 ^ 64 → Opens (OfType n p x) (Answered (test_reply p x says)) k
 
-  -- The group leads to an entry in j questions, and from the entry's type k lead to one of this form.
-  pub record IsEntered (g : G) (f : Node N G) (j k : ℕ) : Type 0 where
+  -- What tests tell of an item by this form is what the type says of it, k questions and one before.
+  abbrev pub IsFormOf : N → Node N G → ℕ → Type 0
+  IsFormOf n f k = (x : Value) (says : Bool) (m : ℕ) → IsTold f x says m → IsTypeTold n x says (m + (k + 1))
+
+  -- The group leads to an entry of this type in j questions, and k lead from the type to one of this form.
+  pub record IsEntered (g : G) (n : N) (f : Node N G) (j k : ℕ) : Type 0 where
     pub none : (base q : ℕ) → Opens (OfGroup g base q []) (Answered (Fails base)) (j + 1)
-    pub some : (base q : ℕ) (x : Value) (xs : List Value) (says : Bool) (m : ℕ) (r : Reply) → q < 2 ^ 64 → IsTold f x says m → Answered r ≡ next_move {N = N} {G = G} (InEntry base xs) (test_reply q x says) → Opens (OfGroup g base q (x ∷ xs)) (Answered r) (m + (j + 1 + (k + 1)))
+    pub some : (base q : ℕ) (x : Value) (xs : List Value) (says : Bool) (m : ℕ) (r : Reply) → q < 2 ^ 64 → IsTypeTold n x says m → Answered r ≡ next_move {N = N} {G = G} (InEntry base xs) (test_reply q x says) → Opens (OfGroup g base q (x ∷ xs)) (Answered r) (m + (j + 1))
+    pub form : IsFormOf n f k

@@ -12,6 +12,7 @@ mod known;
 mod laws;
 mod looking;
 mod machine;
+mod mapping;
 mod means;
 mod replies;
 mod saying;

@@ -2,24 +2,28 @@
 
 ghost use Rattle.std.specs.Prelude.{◌≡◌, ◌≤◌, IfSome};
 ghost use Rattle.cddl_meaning.specs.Moves as M;
-ghost use Rattle.cddl_match.specs.Ahead.{ComesTo, IsEntered, Opens};
+ghost use Rattle.item_nodes.specs.View.{view};
+ghost use Rattle.cddl_match.specs.Ahead.{ComesTo, IsEntered, IsFormOf, IsTypeTold, Opens};
 ghost use Rattle.match_moves.specs.Views.{reply_view, round_move, rounds_move, values};
 ghost use Rattle.table_nodes.specs.Language.{language_of};
 ghost use Rattle.table_nodes.specs.Nodes.{type_view};
 ghost use Rattle.table_nodes.specs.declared.nodes.GroupId.{GroupId};
 
 use crate::behind::{group_behind, type_behind};
+use crate::known::told_of;
 use crate::telling::{DEEPEST, form_tells};
 use cbor_item::Item;
 use match_held::is_small;
 use match_moves::{Reply, Round, Rounds, after_round, entry_reply, is_over, said_reply};
 use match_tests::Subject;
-use table_nodes::{Group, GroupId, Node, Table};
+use table_nodes::{Group, GroupId, Node, Table, Told, TypeId};
 
 /// The entry that a group leads to.
 #[derive(Clone, Copy)]
 struct Entered<'t> {
-    /// The form of the type behind the entry's own.
+    /// The entry's type.
+    node: TypeId,
+    /// The form of the type behind it.
     form: &'t Node,
     /// The questions that lead to the entry.
     groups: u8,
@@ -29,7 +33,7 @@ struct Entered<'t> {
 
 // The entry that the group leads to, if it leads to one.
 fn entry_at<'t>(table: &'t Table, group: GroupId) -> Option<Entered<'t>>
-    ensures { IfSome result (λ it. IsEntered (language_of table.now) group (type_view it.form.now) it.groups it.types) }
+    ensures { IfSome result (λ it. IsEntered (language_of table.now) group it.node (type_view it.form.now) it.groups it.types) }
 {
     let (group, groups) = group_behind(table, group);
     let node = match table.group(group)? {
@@ -38,10 +42,48 @@ fn entry_at<'t>(table: &'t Table, group: GroupId) -> Option<Entered<'t>>
     };
     let behind = type_behind(table, node);
     Some(Entered {
+        node,
         form: behind.form?,
         groups,
         types: behind.passed,
     })
+}
+
+// Whether the entry's type says yes to an item, and how many questions that takes, if not over `most`: by its major type, or by
+// tests alone.
+#[inline(always)]
+fn entry_tells(
+    table: &Table,
+    entered: Entered<'_>,
+    item: &Item,
+    most: u64,
+) -> Option<(bool, u64)>
+    ensures told { IsFormOf (language_of table.now) entered.entry.node (type_view entered.entry.form.now) entered.entry.types → IfSome result (λ it. IsTypeTold (language_of table.now) entered.entry.node (view item.now) it.0 it.1) }
+    ensures within { IfSome result (λ it. it.1 ≤ most) }
+{
+    match told_of(table, entered.node, item) {
+        Told::Yes(steps) => within(true, steps, most),
+        Told::No(steps) => within(false, steps, most),
+        Told::Nothing => {
+            let types = u64::from(entered.types) + 1;
+            let left = most.checked_sub(types)?;
+            let (says, more) = form_tells(table, entered.form, Subject::Item(item), DEEPEST, left)?;
+            Some((says, more + types))
+        }
+    }
+}
+
+// What is known, and in how many questions, if not over `most`.
+#[inline(always)]
+fn within(says: bool, steps: u16, most: u64) -> Option<(bool, u64)>
+    ensures { IfSome result (λ it. (it.0 ≡ says) × (it.1 ≡ steps) × (steps ≤ most)) }
+{
+    let steps = u64::from(steps);
+    if steps <= most {
+        Some((says, steps))
+    } else {
+        None
+    }
 }
 
 // What the entry does with the items where tests alone tell it, and how many questions that takes, if not over `steps`.
@@ -54,7 +96,7 @@ fn told<'i>(
     items: &'i [Item],
     steps: u64,
 ) -> Option<(Reply<'i>, u64)>
-    ensures told { (g : GroupId) → IsEntered (language_of table.now) g (type_view entered.entry.form.now) entered.entry.groups entered.entry.types → IfSome result (λ it. Opens (language_of table.now) (M.OfGroup g base place (values items.now)) (M.Answered (reply_view it.0)) it.1) }
+    ensures told { (g : GroupId) → IsEntered (language_of table.now) g entered.entry.node (type_view entered.entry.form.now) entered.entry.groups entered.entry.types → IfSome result (λ it. Opens (language_of table.now) (M.OfGroup g base place (values items.now)) (M.Answered (reply_view it.0)) it.1) }
     ensures within { IfSome result (λ it. (1 ≤ it.1) × (it.1 ≤ steps)) }
 {
     let groups = u64::from(entered.groups) + 1;
@@ -66,12 +108,10 @@ fn told<'i>(
             if !is_small(item) {
                 return None;
             }
-            let types = u64::from(entered.types) + 1;
-            let left = left.checked_sub(types)?;
             let subject = Subject::Item(item);
-            let (says, more) = form_tells(table, entered.form, subject, DEEPEST, left)?;
+            let (says, more) = entry_tells(table, entered, item, left)?;
             let reply = entry_reply(base, rest, said_reply(place, subject, says));
-            Some((reply, more + (groups + types)))
+            Some((reply, more + groups))
         }
     }
 }
@@ -84,7 +124,7 @@ fn rounds_of<'i>(
     rounds: Rounds<'i>,
     steps: u64,
 ) -> (Round<'i>, u64)
-    ensures comes { IsEntered (language_of table.now) rounds.entry.group (type_view entered.entry.form.now) entered.entry.groups entered.entry.types → ComesTo (language_of table.now) (rounds_move rounds.entry) (round_move result.0) result.1 }
+    ensures comes { IsEntered (language_of table.now) rounds.entry.group entered.entry.node (type_view entered.entry.form.now) entered.entry.groups entered.entry.types → ComesTo (language_of table.now) (rounds_move rounds.entry) (round_move result.0) result.1 }
     ensures within { result.1 ≤ steps }
 {
     let mut rounds = rounds;

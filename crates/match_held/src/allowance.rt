@@ -181,8 +181,25 @@ impl<'i> Allowance<'i> {
         }
     }
 
+    // Whether so many bytes may be read in all, which are read then. The item's size is counted first.
+    #[cold]
+    #[inline(never)]
+    fn take_counted(&mut self, read: usize) -> bool
+        ensures said { IsTrue result ↔ read ≤ most_in self.old }
+        ensures taken { IsTrue result → self.new.read ≡ read }
+        ensures most { most_in self.new ≡ most_in self.old }
+        ensures kept { self.new.kept ≡ self.old.kept }
+    {
+        *self = self.counted();
+        if read > self.most {
+            return false;
+        }
+        self.read = read;
+        true
+    }
+
     /// Takes so many bytes for a reading, if so many may be read yet.
-    #[inline]
+    #[inline(always)]
     pub fn take_read(&mut self, bytes: usize) -> bool
         ensures said { IsTrue result ↔ plus self.old.read bytes ≤ most_in self.old }
         ensures taken { IsTrue result → self.new.read ≡ plus self.old.read bytes }
@@ -194,15 +211,11 @@ impl<'i> Allowance<'i> {
             self.read = read;
             return true;
         }
-        *self = self.counted();
-        if read > self.most {
-            return false;
-        }
-        self.read = read;
-        true
+        self.take_counted(read)
     }
 
     /// Takes one byte for each 16 of the work, if so many may be read yet.
+    #[inline(always)]
     pub fn take_for(&mut self, work: usize) -> bool
         ensures said { IsTrue result ↔ plus self.old.read (work / 16) ≤ most_in self.old }
         ensures taken { IsTrue result → self.new.read ≡ plus self.old.read (work / 16) }

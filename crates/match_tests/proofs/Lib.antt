@@ -1,1 +1,2 @@
 mod OfBits
+mod OfKeys

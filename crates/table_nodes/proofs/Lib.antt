@@ -8,4 +8,5 @@ mod Showing
 mod Rowing
 mod OfFlags
 mod Asking
+mod Beginning
 mod OfKeys

@@ -7,6 +7,7 @@ pub mod Flags
 pub mod Majors
 pub mod Codes
 pub mod Choices
+pub mod Fronts
 pub mod Keys
 pub mod Entries
 pub mod Indexes

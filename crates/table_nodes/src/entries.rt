@@ -12,7 +12,11 @@ use item_nodes::Item;
 use std::alloc::{AllocError, Global};
 
 /// An alternative has an index from so many entries on. For fewer it would not save what it takes to look there.
-const LEAST_INDEXED: usize = 10;
+pub(crate) const LEAST_INDEXED: usize = 10;
+
+/// An index of an alternative serves further ones that begin with the same entries, so many or more, where fewer than these come
+/// after them.
+const MOST_BEHIND: usize = 12;
 
 /// Entries whose keys are strings of so many bytes have no index: to compare one such key would take long.
 const LONG: usize = 1_024;
@@ -68,6 +72,11 @@ fn is_crowded(alloc: Global, buckets: &[usize]) -> Result<bool, AllocError> {
         }
     }
     Ok(false)
+}
+
+// Whether these have no index of their own, since one leads among so many of their first entries, and few come after those.
+pub(crate) fn are_led(led: usize, entries: &[MapEntry]) -> bool {
+    led >= LEAST_INDEXED && entries.len().saturating_sub(led) < MOST_BEHIND
 }
 
 // Whether these are so many entries that they may have an index.

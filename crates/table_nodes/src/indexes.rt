@@ -10,7 +10,8 @@ ghost use Rattle.table_nodes.specs.Nodes.{alternatives_view, type_view};
 
 use crate::choices::member_buckets;
 use crate::codes::bucket_of;
-use crate::entries::entry_buckets;
+use crate::entries::{are_led, entry_buckets};
+use crate::fronts::front_in;
 use crate::nodes::{MapEntry, Node, TypeId};
 use item_nodes::Item;
 use next_same::Chains;
@@ -130,9 +131,16 @@ fn push_indexes_of_map(
     requires before { AreIndexed types.now indexes.old.items }
     ensures { IfOk result (λ _. AreIndexed types.now indexes.new.items) }
 {
+    let mut led = 0;
     for (way, entries) in alternatives.iter().enumerate() {
+        led = front_in(alternatives, way).min(led);
+        if are_led(led, entries) {
+            continue;
+        }
+        led = 0;
         if let Some(buckets) = entry_buckets(alloc, types, entries)? {
             push_index(alloc, indexes, of, way, &buckets)?;
+            led = entries.len();
         }
     }
     Ok(())

@@ -5,6 +5,7 @@ mod choices;
 mod codes;
 mod entries;
 pub mod flags;
+mod fronts;
 mod indexes;
 mod keys;
 mod majors;

@@ -2,11 +2,13 @@
 
 ghost use Rattle.std.specs.Prelude.{◌≡◌, max};
 ghost use Rattle.cddl_meaning.specs.Ranks.Ranked.{IsRanked};
+ghost use Rattle.table_nodes.specs.Fronts.{AreFronts, are_fronts_once};
 ghost use Rattle.table_nodes.specs.Indexes.{AreIndexed, are_indexed_once};
 ghost use Rattle.table_nodes.specs.Majors.{AreShown, are_shown_once};
 ghost use Rattle.table_nodes.specs.Nodes.{language_in};
 ghost use Rattle.table_nodes.specs.Ranks.{greatest, rank_in};
 
+use crate::fronts::{Front, front_at, fronts_of};
 use crate::indexes::{LiteralIndex, index_at, indexes_of};
 use crate::keys::literal_in;
 use crate::majors::{Told, known_of, told_of};
@@ -28,14 +30,16 @@ pub struct Table {
     ranks: usize,
     told: Vec<[Told; 8]>,
     indexes: Vec<LiteralIndex>,
+    fronts: Vec<Front>,
     pub ghost bound: { ranks ≡ max (greatest type_ranks.items) (greatest group_ranks.items) },
     pub ghost ranked: { IsRanked (language_in types.items groups.items) (rank_in type_ranks.items group_ranks.items) ranks },
     pub ghost shown: { AreShown types.items told.items } by { are_shown_once types.items told.items },
     pub ghost indexed: { AreIndexed types.items indexes.items } by { are_indexed_once types.items indexes.items },
+    pub ghost begun: { AreFronts types.items fronts.items } by { are_fronts_once types.items fronts.items },
 }
 
 impl Table {
-    ghost use Rattle.std.specs.Prelude.{◌≡◌, [], ℕ, Bool, List, None, Some, IfErr, IfOk, IfSome, IfNone, MatchOption, slice_get};
+    ghost use Rattle.std.specs.Prelude.{◌≡◌, ◌-◌, [], ℕ, Bool, List, None, Some, IfErr, IfOk, IfSome, IfNone, MatchOption, slice_get};
     ghost use Rattle.cddl_meaning.specs.Forms.{Alternatives, Choice, MapEntry as Entry, MapOf, key_in, most_forms};
     ghost use Rattle.item_nodes.specs.View.{view};
     ghost use Rattle.cddl_meaning.specs.Ranks.Flags.{AreFlags};
@@ -43,6 +47,7 @@ impl Table {
     ghost use Rattle.table_nodes.specs.Nodes.{entries_view, group_view, language_in, type_view};
     ghost use Rattle.table_nodes.specs.Ranks.{flag_in, rank_in};
     ghost use Rattle.table_nodes.specs.Language.{language_of, rank_of, ranks_of, root_of, shown_of, told_of};
+    ghost use Rattle.table_nodes.specs.Fronts.{BeginAlike};
     ghost use Rattle.table_nodes.specs.Indexes.{IsEntryIndexOf, IsIndexOf};
     ghost use Rattle.table_nodes.specs.Majors.{TellsOf, told_view};
     ghost use Rattle.table_nodes.specs.declared.nodes.TypeId.{TypeId};
@@ -76,6 +81,7 @@ impl Table {
         let most = greatest(&type_ranks).max(greatest(&group_ranks));
         let told = Vec::new(*types.allocator());
         let indexes = Vec::new(*types.allocator());
+        let fronts = Vec::new(*types.allocator());
         Ok(Table {
             types,
             groups,
@@ -85,6 +91,7 @@ impl Table {
             ranks: most,
             told,
             indexes,
+            fronts,
         })
     }
 
@@ -105,6 +112,7 @@ impl Table {
             group_ranks,
             ranks,
             indexes,
+            fronts,
             ..
         } = self;
         let told = told_of(alloc, &types)?;
@@ -117,6 +125,7 @@ impl Table {
             ranks,
             told,
             indexes,
+            fronts,
         })
     }
 
@@ -140,6 +149,7 @@ impl Table {
             ..
         } = self;
         let indexes = indexes_of(alloc, &types)?;
+        let fronts = fronts_of(alloc, &types)?;
         Ok(Table {
             types,
             groups,
@@ -149,6 +159,7 @@ impl Table {
             ranks,
             told,
             indexes,
+            fronts,
         })
     }
 
@@ -211,6 +222,15 @@ impl Table {
             return None;
         }
         index_at(&self.indexes, map, way)
+    }
+
+    /// With how many of its entries an alternative of a map, by its number, begins as the one before it does. It is kept where there
+    /// are 10 or more, so that an index of the one before serves it.
+    #[inline]
+    pub fn front_of(&self, map: TypeId, way: usize) -> usize
+        ensures { (ways : List (List (Entry TypeId))) (some others : List (Entry TypeId)) → (language_of self.now).type_at map ≡ MapOf ways → slice_get ways (way - 1) ≡ Some some → slice_get ways way ≡ Some others → BeginAlike result some others }
+    {
+        front_at(&self.fronts, map, way)
     }
 
     /// The one value that a type is known to be by its form: a value, or what a name or a choice of one stands for, through 16 of

@@ -16,11 +16,11 @@ pub loop-base-preserved : goal.loop-base-preserved
 loop-base-preserved c = record {
   within = omega (arith, c.loop-base.invariant.within, c.in-Some.ensures.within.1);
   group = c.in-Another.ensures.group _ refl ∙ c.loop-base.invariant.group;
-  comes = λ entered. and_on (language_of c.args.table.now) (c.loop-base.invariant.comes entered) (a_round (language_of c.args.table.now) c.loop-base.rounds.least (most_view c.loop-base.rounds.most) c.loop-base.rounds.group c.loop-base.rounds.base c.loop-base.rounds.place (values c.loop-base.rounds.items.now) c.loop-base.rounds.far (c.in-Some.ensures.told c.loop-base.rounds.group (subst (λ g. IsEntered (language_of c.args.table.now) g (type_view c.args.entered.form.now) c.args.entered.groups c.args.entered.types) (sym c.loop-base.invariant.group) entered)) (sym c.is_over.ensures ∙ c.loop-base-test.true) c.in-Another.ensures.next) refl;
+  comes = λ entered. and_on (language_of c.args.table.now) (c.loop-base.invariant.comes entered) (a_round (language_of c.args.table.now) c.loop-base.rounds.least (most_view c.loop-base.rounds.most) c.loop-base.rounds.group c.loop-base.rounds.base c.loop-base.rounds.place (values c.loop-base.rounds.items.now) c.loop-base.rounds.far (c.in-Some.ensures.told c.loop-base.rounds.group (subst (λ g. IsEntered (language_of c.args.table.now) g c.args.entered.node (type_view c.args.entered.form.now) c.args.entered.groups c.args.entered.types) (sym c.loop-base.invariant.group) entered)) (sym c.is_over.ensures ∙ c.loop-base-test.true) c.in-Another.ensures.next) refl;
 }
 
 pub returns-in_default : goal.returns-in_default
 returns-in_default c = record {
-  comes = λ entered. and_on (language_of c.args.table.now) (c.loop-base.invariant.comes entered) (a_round (language_of c.args.table.now) c.loop-base.rounds.least (most_view c.loop-base.rounds.most) c.loop-base.rounds.group c.loop-base.rounds.base c.loop-base.rounds.place (values c.loop-base.rounds.items.now) c.loop-base.rounds.far (c.in-Some.ensures.told c.loop-base.rounds.group (subst (λ g. IsEntered (language_of c.args.table.now) g (type_view c.args.entered.form.now) c.args.entered.groups c.args.entered.types) (sym c.loop-base.invariant.group) entered)) (sym c.is_over.ensures ∙ c.loop-base-test.true) c.after_round.ensures.next) refl;
+  comes = λ entered. and_on (language_of c.args.table.now) (c.loop-base.invariant.comes entered) (a_round (language_of c.args.table.now) c.loop-base.rounds.least (most_view c.loop-base.rounds.most) c.loop-base.rounds.group c.loop-base.rounds.base c.loop-base.rounds.place (values c.loop-base.rounds.items.now) c.loop-base.rounds.far (c.in-Some.ensures.told c.loop-base.rounds.group (subst (λ g. IsEntered (language_of c.args.table.now) g c.args.entered.node (type_view c.args.entered.form.now) c.args.entered.groups c.args.entered.types) (sym c.loop-base.invariant.group) entered)) (sym c.is_over.ensures ∙ c.loop-base-test.true) c.after_round.ensures.next) refl;
   within = omega (arith, c.loop-base.invariant.within, c.in-Some.ensures.within.1);
 }

@@ -10,7 +10,7 @@ abbrev pub invariant-loop-base : goal.invariant-loop-base
 invariant-loop-base l = record {
   within : l.asked ≤ l.fn.steps;
   group : l.rounds.group ≡ l.fn.rounds.group;
-  comes : IsEntered (language_of l.fn.table) l.fn.rounds.group (type_view l.fn.entered.form.now) l.fn.entered.groups l.fn.entered.types → ComesTo (language_of l.fn.table) (rounds_move l.fn.rounds) (rounds_move l.rounds) l.asked;
+  comes : IsEntered (language_of l.fn.table) l.fn.rounds.group l.fn.entered.node (type_view l.fn.entered.form.now) l.fn.entered.groups l.fn.entered.types → ComesTo (language_of l.fn.table) (rounds_move l.fn.rounds) (rounds_move l.rounds) l.asked;
 }
 
 abbrev pub decreases-loop-base : goal.decreases-loop-base

@@ -6,4 +6,5 @@ invariant_of-result c = record {
   ranked = c.args.self.ranked;
   shown = c.args.self.shown;
   indexed = rw c.deref.ensures.value at c.in_ok-indexes.ensures;
+  begun = rw c.deref-2.ensures.value at c.in_ok-fronts.ensures;
 }

@@ -6,5 +6,6 @@ invariant_of-result c = record {
   bound = c.args.self.bound;
   ranked = c.args.self.ranked;
   indexed = c.args.self.indexed;
+  begun = c.args.self.begun;
   shown = λ n m t e. sym (rw c.deref.ensures.value at c.in_ok-told.ensures n m) ∙ e;
 }
