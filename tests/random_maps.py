@@ -3,10 +3,11 @@
 
     random_maps.py PROGRAM [--count N] [--start K]
 
-Case number K is always the same: a map of alternatives of 10 to 40 entries, whose keys are literals, names of literals and other
-types, some of them again and again, and a few maps that are made of these keys. Each is asked twice: by itself, where each pair
-finds its entries by an index, and in 70 arrays, where the questions are asked by turns, which have none. Both have to match, or to
-fail at the same place, with the same part shown there, and the one in arrays takes as many steps more as they do.
+Case number K is always the same: a map of alternatives of 10 entries or more, some of which begin alike, whose keys are
+literals, names of literals and other types, some of them again and again, and a few maps that are made of these keys. Each is
+asked twice: by itself, where each pair finds its entries by an index, and in 70 arrays, where the questions are asked by turns,
+which have none. Both have to match, or to fail at the same place, with the same part shown there, and the one in arrays takes
+as many steps more as they do.
 
 Prints what differs, with the specification and the map in hex, and last 'N passed, M failed'.
 """
@@ -34,6 +35,7 @@ KEYS = (
     *(("bytes", it) for it in (b"", b"a", b"1", b"ab")), *(("text", it) for it in (b"", b"a", b"1", b"ab", b"a longer name")),
     ("simple", 20), ("simple", 22),
 )
+LONG_KEY = ("text", b"x" * 1024)
 OTHER_KEYS = ("uint", "int", "tstr", "bstr", "any", "0..10", '1 / "a"', "bool", "tstr .size 1")
 VALUES = (("uint", 0), ("uint", 1), ("text", b"x"), ("simple", 20), ("array", ()))
 VALUE_TYPES = ("int", "0", "1", "tstr", "bool", "any", "any", "[]", "int / tstr")
@@ -70,11 +72,15 @@ def specification(chance):
     """The rules after the root, of which the first is the map."""
     names = Names()
     ways = []
-    for _ in range(chance.choice([1, 1, 2, 3])):
+    for _ in range(chance.choice([1, 1, 2, 3, 5])):
         entries = [entry(chance, names) for _ in range(chance.choice([10, 12, 15, 20, 40]))]
-        if ways and chance.random() < 0.5:
-            # alternatives that begin alike
-            entries[: len(ways[-1]) // 2] = ways[-1][: len(ways[-1]) // 2]
+        if ways and chance.random() < 0.7:
+            # alternatives that begin alike, and have few or many entries after those
+            front = ways[-1][: chance.choice([len(ways[-1]) // 2, len(ways[-1]) - 2, len(ways[-1])])]
+            entries = front + entries[: chance.choice([0, 1, 2, 5, 11, 12, 40])]
+        if chance.random() < 0.03:
+            # an alternative with so long a key has no index
+            entries.insert(chance.randrange(len(entries) + 1), f"? {literal(LONG_KEY)} => (int)")
         ways.append(entries)
     body = " // ".join(", ".join(it) for it in ways)
     return "\n".join([f"m = {{ {body} }}", *names.rules, ""])
@@ -82,7 +88,7 @@ def specification(chance):
 
 def random_map(chance):
     count = chance.choice([0, 1, 2, 3, 5, 8, 20])
-    keys = list(chance.sample(KEYS, min(count, len(KEYS))))
+    keys = list(chance.sample((*KEYS, LONG_KEY) if chance.random() < 0.1 else KEYS, min(count, len(KEYS))))
     keys += [("uint", 1000 + it) for it in range(count - len(keys))]
     return "map", tuple((key, chance.choice(VALUES)) for key in keys)
 
