@@ -19,7 +19,7 @@ use Rattle.cddl_match.specs.Entering.{ArePassed, IsLead, IsLedTo, IsAskedNext, I
 -- lists that begin alike
 
 -- they do with fewer
-fewer : {A : Type 0} (m n : ℕ) (xs ys : List A) → m ≤ n → take n xs ≡ take n ys → take m xs ≡ take m ys
+pub fewer : {A : Type 0} (m n : ℕ) (xs ys : List A) → m ≤ n → take n xs ≡ take n ys → take m xs ≡ take m ys
 fewer zero n xs ys h e = refl
 fewer (suc m) zero xs ys h e = absurd (omega (arith, h))
 fewer (suc m) (suc n) [] [] h e = refl
@@ -39,7 +39,7 @@ as_long (suc n) (x ∷ xs) (y ∷ ys) h e = let j : take n xs ≡ take n ys = cc
 same_at : {A : Type 0} (n : ℕ) (xs ys : List A) (i : ℕ) (d : A) → i < n → take n xs ≡ take n ys → slice_index_or xs i d ≡ slice_index_or ys i d
 same_at n xs ys i d h e = sym (get_or-take n xs i d h) ∙ ap (λ zs. slice_index_or zs i d) e ∙ get_or-take n ys i d h
 
-alike_on : {A : Type 0} (m n : ℕ) (xs ys zs : List A) → BeginAlike m xs ys → BeginAlike n ys zs → BeginAlike (min m n) xs zs
+pub alike_on : {A : Type 0} (m n : ℕ) (xs ys zs : List A) → BeginAlike m xs ys → BeginAlike n ys zs → BeginAlike (min m n) xs zs
 alike_on m n xs ys zs a b = (omega (arith, b.0), fewer (min m n) m xs ys (omega arith) a.1 ∙ fewer (min m n) n ys zs (omega arith) b.1)
 
 module _ {N G : Type 0} (l : Language N G) where

@@ -21,6 +21,7 @@ use Rattle.match_moves.specs.declared.questions.Fate.TheVariants as T
 use Rattle.cddl_match.specs.declared.calls.Stop.{Stop}
 use Rattle.cddl_match.specs.declared.calls.Stop.TheVariants.{Spent, NoMemory}
 use Rattle.cddl_match.specs.declared.tallied.Tallied.{Tallied}
+use Rattle.table_nodes.specs.Fronts as Fronts
 use Rattle.table_nodes.specs.Nodes.{entries_view, entry_view}
 use Rattle.table_nodes.specs.declared.nodes.GroupId.{GroupId}
 use Rattle.table_nodes.specs.declared.nodes.MapEntry.{MapEntry}
@@ -212,12 +213,16 @@ module _ {N G : Type 0} (l : Language N G) where
   pub as_many_counts : {es : List (F.MapEntry N)} {base next told asked : ℕ} {ps left : Pairs} {t : M.Tally} → AreTold l es base ps next left t told asked → told ≤ length t.counts
   as_many_counts a = omega (arith, ap length a.counted ∙ length-append a.counts (no_counts a.others), a.each)
 
-same_front : (es fs : List MapEntry) {told : ℕ} → BeginAlike told es fs → take told (entries_view es) ≡ take told (entries_view fs)
-same_front es fs {told = told} h = take-map entry_view told es ∙ ap entries_view h.1 ∙ sym (take-map entry_view told fs)
+-- Entries that are the same mean the same.
+pub same_front : (n : ℕ) (es fs : List MapEntry) → Fronts.BeginAlike n es fs → BeginAlike n es fs
+same_front n es fs h = (omega (arith, h.0, as_many_entries fs), take-map entry_view n es ∙ ap entries_view h.1 ∙ sym (take-map entry_view n fs))
+
+pub same_taken : (n : ℕ) (es fs : List MapEntry) → BeginAlike n es fs → entries_view (take n es) ≡ entries_view (take n fs)
+same_taken n es fs h = sym (take-map entry_view n es) ∙ h.1 ∙ take-map entry_view n fs
 
 -- What an alternative replies whose first entries tell what becomes of each pair, as those of another one did.
 pub again : (l : Language TypeId GroupId) (es fs : List MapEntry) (base next told asked : ℕ) (ps : Pairs) (t : M.Tally) → BeginAlike told es fs → AreTold l (entries_view es) base ps next no_pairs t told asked → Opens l (M.OfAlternative (entries_view fs) base ps) (M.Answered (M.answer_reply next (M.tally_says (entries_view fs) base (counted_again told (entries_view fs) t)))) (1 + asked)
-again l es fs base next told asked ps t h a = opens_told l (told_again l (entries_view fs) (same_front es fs h) a)
+again l es fs base next told asked ps t h a = opens_told l (told_again l (entries_view fs) h.1 a)
 
 pub says_so : (l : Language TypeId GroupId) (q : M.Question TypeId GroupId) (steps left k next : ℕ) (a b : J.Answer) → Opens l q (M.Answered (M.answer_reply next a)) k → a ≡ b → k + left ≡ steps → Says l q steps left (Replied (M.answer_reply next b))
 says_so l q steps left k next a b o e h = says_on l steps left left (Replied (M.answer_reply next b)) (subst (λ x. Opens l q (M.Answered (M.answer_reply next x)) k) e o) h (answered l left (M.answer_reply next b))

@@ -8,6 +8,7 @@ use Rattle.cddl_meaning.specs.Forms.{Language}
 use Rattle.cddl_meaning.specs.Judges as J
 use Rattle.cddl_meaning.specs.Moves as M
 use Rattle.cddl_meaning.specs.Moves.{LeadsTo, enough_of}
+use Rattle.table_nodes.specs.Fronts as Fronts
 use Rattle.table_nodes.specs.Nodes.{entries_view}
 use Rattle.table_nodes.specs.declared.nodes.GroupId.{GroupId}
 use Rattle.table_nodes.specs.declared.nodes.MapEntry.{MapEntry}
@@ -38,7 +39,7 @@ sorting_of es base place pair rest tally = record {
 
 -- the same entries at first, so many
 abbrev pub BeginAlike : ℕ → (some others : List MapEntry) → Type 0
-BeginAlike n some others = (n ≤ length others) × (take n some ≡ take n others)
+BeginAlike n some others = Fronts.BeginAlike n (entries_view some) (entries_view others)
 
 -- how many of the first entries tell what becomes of each pair, with one pair more
 abbrev pub told_with : Option ℕ → Fate → ℕ → Option ℕ

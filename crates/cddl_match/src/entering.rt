@@ -54,24 +54,39 @@ fn narrowed<'t>(lead: Lead<'t>, front: usize) -> Option<Lead<'t>>
     })
 }
 
-// What leads among the entries of an alternative of a map: its own index, or what led in the one before, if the two begin with the
-// same entries.
+/// Whether fewer entries are the same is not looked up.
+const LEAST_KNOWN: usize = 10;
+
+// With how many of these entries the alternative before begins, too, as far as that is looked up.
+#[inline]
+pub(crate) fn front_for(table: &Table, map: TypeId, way: usize, entries: &[MapEntry]) -> usize
+    ensures { (ways : List (List (Entry Id))) (some : List (Entry Id)) → (language_of table.now).type_at map ≡ MapOf ways → slice_get ways (way - 1) ≡ Some some → slice_get ways way ≡ Some (entries_view entries.now) → BeginAlike result some (entries_view entries.now) }
+{
+    if way == 0 || entries.len() < LEAST_KNOWN {
+        return 0;
+    }
+    table.front_of(map, way)
+}
+
+// What leads among the entries of an alternative of a map, of which so many come first in the one before, too: its own index, or what
+// led there.
 #[inline]
 pub(crate) fn lead_for<'t>(
     table: &'t Table,
     map: TypeId,
     way: usize,
     entries: &[MapEntry],
+    front: usize,
     before: Option<Lead<'t>>,
 ) -> Option<Lead<'t>>
-    ensures { (ways : List (List (Entry Id))) (some : List (Entry Id)) → (language_of table.now).type_at map ≡ MapOf ways → slice_get ways (way - 1) ≡ Some some → slice_get ways way ≡ Some (entries_view entries.now) → IfSome before.entry (IsLead (language_of table.now) some) → IfSome result (IsLead (language_of table.now) (entries_view entries.now)) }
+    ensures { (ways : List (List (Entry Id))) (some : List (Entry Id)) → (language_of table.now).type_at map ≡ MapOf ways → slice_get ways way ≡ Some (entries_view entries.now) → BeginAlike front some (entries_view entries.now) → IfSome before.entry (IsLead (language_of table.now) some) → IfSome result (IsLead (language_of table.now) (entries_view entries.now)) }
 {
     match table.entry_index_of(map, way, entries) {
         Some(index) => Some(Lead {
             index,
             entries: entries.len(),
         }),
-        None => narrowed(before?, table.front_of(map, way)),
+        None => narrowed(before?, front),
     }
 }
 

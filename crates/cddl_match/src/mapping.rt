@@ -6,13 +6,13 @@ ghost use Rattle.cddl_meaning.specs.Forms as F;
 ghost use Rattle.cddl_meaning.specs.Judges as J;
 ghost use Rattle.cddl_meaning.specs.Moves as M;
 ghost use Rattle.cddl_match.specs.Entering.{IsLead};
-ghost use Rattle.cddl_match.specs.Tellings.{IsTallied, KeySays, Meets, Sorts, Tallies};
+ghost use Rattle.cddl_match.specs.Tellings.{BeginAlike, IsTallied, KeySays, Meets, Sorts, Tallies};
 ghost use Rattle.cddl_match.specs.Within.{Ends, Says, said_view};
 ghost use Rattle.table_nodes.specs.Language.{language_of};
 ghost use Rattle.table_nodes.specs.Nodes.{alternatives_view, entries_view, entry_view};
 
 use crate::calls::{Said, Stop};
-use crate::entering::{Lead, entries_from, lead_for, work_for};
+use crate::entering::{Lead, entries_from, front_for, lead_for, work_for};
 use crate::means::Means;
 use crate::replies::{either_said, key_tested};
 use crate::saying::type_says_here;
@@ -41,7 +41,9 @@ pub(crate) fn map_says<'i>(
     let mut lead = None;
     let mut sofar = Said::No { far: base };
     for (way, entries) in alternatives.iter().enumerate() {
-        lead = lead_for(table, map, way, entries, lead);
+        let front = front_for(table, map, way, entries);
+        lead = lead_for(table, map, way, entries, front, lead);
+        tallied.alike = tallied.alike.min(front);
         match alternative_says(
             table,
             means,
@@ -74,9 +76,11 @@ fn alternative_says<'t, 'i>(
     depth: u8,
 ) -> Said
     requires known { IsTallied (language_of table.now) base (pairs_view pairs.now) tallied.old }
+    requires alike { BeginAlike tallied.old.alike tallied.old.entries.now entries.now }
     requires lead { IfSome lead (IsLead (language_of table.now) (entries_view entries.now)) }
     ensures says { Says (language_of table.now) (M.OfAlternative (entries_view entries.now) base (pairs_view pairs.now)) means.old.left means.new.left (said_view result) }
     ensures known { IsTallied (language_of table.now) base (pairs_view pairs.now) tallied.new }
+    ensures alike { BeginAlike tallied.new.alike tallied.new.entries.now entries.now }
 {
     // Its entries are gone through at the end, also those that no pair belongs to.
     if !means.shelf.allowance.take_for(entries.len()) {
@@ -108,9 +112,11 @@ fn tally_pairs<'t, 'i>(
     pairs: &'i [(Item, Item)],
     depth: u8,
 ) -> Result<(), Stop>
-    requires { IfSome lead (IsLead (language_of table.now) (entries_view entries.now)) }
+    requires lead { IfSome lead (IsLead (language_of table.now) (entries_view entries.now)) }
+    requires alike { BeginAlike tallied.old.alike tallied.old.entries.now entries.now }
     ensures comes { Tallies (language_of table.now) (entries_view entries.now) base (pairs_view pairs.now) means.old.left means.new.left tallied.new result }
     ensures known { IsTallied (language_of table.now) base (pairs_view pairs.now) tallied.new }
+    ensures alike { BeginAlike tallied.new.alike tallied.new.entries.now entries.now }
 {
     tallied.told = None;
     let Ok(()) = begin_tally(&mut tallied.tally, entries) else {
@@ -143,6 +149,7 @@ fn tally_pairs<'t, 'i>(
         return Err(Stop::NoMemory);
     }
     tallied.entries = entries;
+    tallied.alike = entries.len();
     tallied.told = told;
     tallied.enough = first_are_enough(told, entries, &tallied.tally);
     tallied.asked = steps - means.left;

@@ -8,6 +8,7 @@ ghost use Rattle.cddl_meaning.specs.Moves.{answer_reply, tally_says};
 ghost use Rattle.cddl_match.specs.Tellings.{BeginAlike, IsTallied, told_with};
 ghost use Rattle.match_moves.specs.Views.{tally_view};
 ghost use Rattle.cddl_match.specs.Within.{Replied, Says, said_view};
+ghost use Rattle.table_nodes.specs.Fronts as Fronts;
 ghost use Rattle.table_nodes.specs.Language.{language_of};
 ghost use Rattle.table_nodes.specs.Nodes.{entries_view};
 
@@ -23,6 +24,8 @@ use table_nodes::{MapEntry, Table};
 pub(crate) struct Tallied<'t> {
     pub(crate) tally: Tally,
     pub(crate) entries: &'t [MapEntry],
+    /// So many of these entries are known to be the first ones of the alternative in work.
+    pub(crate) alike: usize,
     /// So many of the first entries tell what becomes of each pair. None where a pair belongs to no entry, or where nothing
     /// was asked yet.
     pub(crate) told: Option<usize>,
@@ -36,11 +39,13 @@ pub(crate) struct Tallied<'t> {
 
 // Nothing was asked yet. It takes no memory.
 pub(crate) fn nothing_tallied<'t>(alloc: Global) -> Tallied<'t>
-    ensures { result.told ≡ None }
+    ensures told { result.told ≡ None }
+    ensures alike { result.alike ≡ 0 }
 {
     Tallied {
         tally: no_tally(alloc),
         entries: &[],
+        alike: 0,
         told: None,
         enough: false,
         asked: 0,
@@ -60,14 +65,26 @@ pub(crate) fn told_with(told: Option<usize>, fate: Fate, entries: usize) -> Opti
     }
 }
 
+// Whether two entries are the same. Most that differ have other keys.
+#[inline(always)]
+fn are_same(some: &MapEntry, other: &MapEntry) -> bool
+    ensures { IsTrue result → some.now ≡ other.now }
+{
+    some.key_type == other.key_type
+        && some.value_type == other.value_type
+        && some.least == other.least
+        && some.most == other.most
+        && some.cuts == other.cuts
+}
+
 // Whether the first entries, so many, are the same.
 fn begin_alike(some: &[MapEntry], others: &[MapEntry], count: usize) -> bool
-    ensures { IsTrue result → BeginAlike count some.now others.now }
+    ensures { IsTrue result → Fronts.BeginAlike count some.now others.now }
 {
     let mut same = 0;
     while same < count {
         match (some.get(same), others.get(same)) {
-            (Some(entry), Some(other)) if entry == other => same += 1,
+            (Some(entry), Some(other)) if are_same(entry, other) => same += 1,
             _ => return false,
         }
     }
@@ -96,10 +113,11 @@ fn said_where(shown: Option<usize>, next: usize) -> Said
 impl<'t> Tallied<'t> {
     // How many of these entries tell what becomes of each pair, if they are the same as those that were asked.
     pub(crate) fn told_in(&self, entries: &[MapEntry]) -> Option<usize>
+        requires { BeginAlike self.now.alike self.now.entries.now entries.now }
         ensures { IfSome result (λ told. (self.now.told ≡ Some told) × BeginAlike told self.now.entries.now entries.now) }
     {
         let told = self.told?;
-        if begin_alike(self.entries, entries, told) {
+        if told <= self.alike || begin_alike(self.entries, entries, told) {
             return Some(told);
         }
         None

@@ -11,6 +11,7 @@ use Rattle.item_nodes.specs.View.{pairs_view, view}
 use Rattle.cddl_meaning.specs.Forms.{passes}
 use Rattle.cddl_meaning.specs.Judges as J
 use Rattle.cddl_meaning.specs.Moves as M
+use Rattle.table_nodes.specs.Fronts as Fronts
 use Rattle.table_nodes.specs.Language.{language_of}
 use Rattle.table_nodes.specs.Majors.{told_view}
 use Rattle.table_nodes.specs.Nodes.{alternatives_view, content_view, entries_view, entry_view, most_view, test_view, type_view}
@@ -26,7 +27,7 @@ use Rattle.table_nodes.specs.Entries.{entry_buckets_in}
 use Rattle.table_nodes.specs.declared.nodes.MapEntry.{MapEntry}
 use Rattle.cddl_match.proofs.Passed.{choice_ends, member_asked}
 use Rattle.cddl_match.proofs.Outcomes.{answered, begins, ends_on, passes_on, says_on, took, asks}
-use Rattle.cddl_match.proofs.Passing.{after_first, begins_led, goes_led, none_passed, one_more_passed, some_left}
+use Rattle.cddl_match.proofs.Passing.{after_first, alike_on, begins_led, goes_led, none_passed, one_more_passed, some_left}
 use Rattle.cddl_match.proofs.Sayings.{has_said, type_on, type_few, group_on, group_few, no_passes, yes_passes, array_ends, simple_ends, meant_ends, held_ends, nothing_held, entry_ends, goes_on, ends_so, stops, round_stops}
 use Rattle.cddl_match.proofs.Handing.{handed_on, handed_past, is_stray, its_value, kept, key_asked, key_few, key_passed, met, met_stops, none_tried, other_value, value_spent}
 use Rattle.cddl_match.proofs.Tellings.{as_many_entries, no_pair_told, pair_few, pair_sorted, pair_stops, pair_told, told_and, told_fits}
@@ -180,8 +181,9 @@ saying::form_says-map_says-requires t c = (omega arith, rw c.deref-in-Some.ensur
 
 pub mapping::map_says-loop-way-init : goal.mapping::map_says-loop-way-init
 mapping::map_says-loop-way-init t c = record {
+  alike = λ some e. rw c.nothing_tallied-tallied.ensures.alike (omega arith, refl);
   led = λ some e. tt;
-  known = rw c.nothing_tallied-tallied.ensures tt;
+  known = rw c.nothing_tallied-tallied.ensures.told tt;
   within = omega arith;
   comes = (J.Fails c.args.base, refl, begins (language_of c.args.table.now) (M.next_way {G = GroupId} (alternatives_view c.args.alternatives.now) c.args.base (pairs_view c.args.pairs.now) (J.Fails c.args.base)) c.args.means.now.left);
 }
@@ -193,11 +195,16 @@ mapping::map_says-alternative_says-requires t c =
     let ways = alternatives_view alts in
     let way = c.loop-way.way in
     let entries_of = λ (es : Vec MapEntry Global). entries_view es.items in
-    let here : slice_get ways way ≡ Some (entries_view c.deref.result.now) = slice_get-map entries_of alts way ∙ (ap (option_map entries_of) (slice_get_read alts _ way c.index-alternatives-way.result refl c.loop-way-test.true c.index-alternatives-way.is) ∙ ap (λ es. Some (entries_view es)) (sym c.deref.ensures.value)) in
+    let es = entries_view c.index-alternatives-way.result.items in
+    let here : slice_get ways way ≡ Some es = slice_get-map entries_of alts way ∙ ap (option_map entries_of) (slice_get_read alts _ way c.index-alternatives-way.result refl c.loop-way-test.true c.index-alternatives-way.is) in
     let before = there ways (way - 1) (omega (arith, c.loop-way-test.true, length-map alts entries_of)) in
-    let led = c.lead_for-lead.ensures ways before.0 c.requires before.1 here (c.loop-way.invariant.led before.0 before.1) in
-    let same : c.deref.result.now ≡ c.deref-in-loop-way.result.now = c.deref.ensures.value ∙ sym c.deref-in-loop-way.ensures.value in
-    (omega arith, (c.loop-way.invariant.known, subst (λ es. IfSome c.lead_for-lead.result (IsLead l (entries_view es))) same led))
+    let front : Fronts.BeginAlike c.front_for-front.result before.0 es = rw c.deref.ensures.value at (c.front_for-front.ensures ways before.0 c.requires before.1 (here ∙ ap (λ xs. Some (entries_view xs)) (sym c.deref.ensures.value))) in
+    let led : IfSome c.lead_for-lead.result (IsLead l es) = rw c.deref-in-loop-way.ensures.value at (c.lead_for-lead.ensures ways before.0 c.requires (here ∙ ap (λ xs. Some (entries_view xs)) (sym c.deref-in-loop-way.ensures.value)) (subst (λ xs. Fronts.BeginAlike c.front_for-front.result before.0 (entries_view xs)) (sym c.deref-in-loop-way.ensures.value) front) (c.loop-way.invariant.led before.0 before.1)) in
+    let both = alike_on c.loop-way.tallied.alike c.front_for-front.result (entries_view c.loop-way.tallied.entries.now) before.0 es (c.loop-way.invariant.alike before.0 before.1) front in
+    let same = sym c.deref-in-loop-way-2.ensures.value in
+    (omega arith, (c.loop-way.invariant.known, (
+      subst (λ xs. Fronts.BeginAlike c.min.result (entries_view c.loop-way.tallied.entries.now) (entries_view xs)) same (subst (λ n. Fronts.BeginAlike n (entries_view c.loop-way.tallied.entries.now) es) (omega (arith, c.min.ensures)) both),
+      subst (λ xs. IfSome c.lead_for-lead.result (IsLead l (entries_view xs))) same led)))
 
 pub mapping::map_says-loop-way-preserved : goal.mapping::map_says-loop-way-preserved
 mapping::map_says-loop-way-preserved t c =
@@ -206,9 +213,12 @@ mapping::map_says-loop-way-preserved t c =
     let ways = alternatives_view alts in
     let way = c.loop-way.way in
     let entries_of = λ (es : Vec MapEntry Global). entries_view es.items in
-    let here : slice_get ways way ≡ Some (entries_view c.deref.result.now) = slice_get-map entries_of alts way ∙ (ap (option_map entries_of) (slice_get_read alts _ way c.index-alternatives-way.result refl c.loop-way-test.true c.index-alternatives-way.is) ∙ ap (λ es. Some (entries_view es)) (sym c.deref.ensures.value)) in
+    let es = entries_view c.index-alternatives-way.result.items in
+    let here : slice_get ways way ≡ Some es = slice_get-map entries_of alts way ∙ ap (option_map entries_of) (slice_get_read alts _ way c.index-alternatives-way.result refl c.loop-way-test.true c.index-alternatives-way.is) in
     let before = there ways (way - 1) (omega (arith, c.loop-way-test.true, length-map alts entries_of)) in
-    let led = c.lead_for-lead.ensures ways before.0 c.requires before.1 here (c.loop-way.invariant.led before.0 before.1) in
+    let front : Fronts.BeginAlike c.front_for-front.result before.0 es = rw c.deref.ensures.value at (c.front_for-front.ensures ways before.0 c.requires before.1 (here ∙ ap (λ xs. Some (entries_view xs)) (sym c.deref.ensures.value))) in
+    let led : IfSome c.lead_for-lead.result (IsLead l es) = rw c.deref-in-loop-way.ensures.value at (c.lead_for-lead.ensures ways before.0 c.requires (here ∙ ap (λ xs. Some (entries_view xs)) (sym c.deref-in-loop-way.ensures.value)) (subst (λ xs. Fronts.BeginAlike c.front_for-front.result before.0 (entries_view xs)) (sym c.deref-in-loop-way.ensures.value) front) (c.loop-way.invariant.led before.0 before.1)) in
+    let both = alike_on c.loop-way.tallied.alike c.front_for-front.result (entries_view c.loop-way.tallied.entries.now) before.0 es (c.loop-way.invariant.alike before.0 before.1) front in
     let i = c.loop-way.invariant.comes in
     let ps = pairs_view c.args.pairs.now in
     let taken = c.args.means.now.left - c.loop-way.means.left in
@@ -216,9 +226,10 @@ mapping::map_says-loop-way-preserved t c =
     let so_far = subst (λ ws. ComesTo l (M.next_way {G = GroupId} ways c.args.base ps (J.Fails c.args.base)) (M.next_way {G = GroupId} (alternatives_view ws) c.args.base ps i.0) taken) next i.2 in
     let x = has_said c.alternative_says.result c.in_default.not-Spent c.in_default.not-NoMemory in
     let q = M.OfAlternative (entries_view c.index-alternatives-way.result.items) c.args.base ps in
-    let told : Says l q c.loop-way.means.left c.alternative_says.new.means.left (Replied x.0) = subst (λ o. Says l q c.loop-way.means.left c.alternative_says.new.means.left o) x.1 (rw c.deref-in-loop-way.ensures.value at c.alternative_says.ensures.says) in
+    let told : Says l q c.loop-way.means.left c.alternative_says.new.means.left (Replied x.0) = subst (λ o. Says l q c.loop-way.means.left c.alternative_says.new.means.left o) x.1 (rw c.deref-in-loop-way-2.ensures.value at c.alternative_says.ensures.says) in
     record {
       known = c.alternative_says.ensures.known;
+      alike = λ some e. subst (Fronts.BeginAlike c.alternative_says.new.tallied.alike (entries_view c.alternative_says.new.tallied.entries.now)) (same_some (sym here ∙ ap (slice_get ways) (let k : way ≡ way + 1 - 1 = omega arith in k) ∙ e)) (rw c.deref-in-loop-way-2.ensures.value at c.alternative_says.ensures.alike);
       led = λ some e. subst (λ es. IfSome c.lead_for-lead.result (IsLead l es)) (same_some (sym here ∙ ap (slice_get ways) (let k : way ≡ way + 1 - 1 = omega arith in k) ∙ e)) led;
       within = omega (arith, c.loop-way.invariant.within, told.1);
       comes = (M.either_reply i.0 x.0, c.either_said-sofar.ensures i.0 x.0 i.1 x.1, goes_on l (M.InMap (alternatives_view (drop (way + 1) alts)) c.args.base ps i.0) c.args.means.now.left c.loop-way.means.left c.alternative_says.new.means.left so_far c.loop-way.invariant.within told);
@@ -242,6 +253,7 @@ mapping::tally_pairs-loop-pair-init t c =
     record {
       within = omega arith;
       none = refl;
+      alike = c.requires.alike;
       comes = rw (c.plus-place.ensures, c.in-Ok.ensures) (begins l (M.next_pair es c.args.base (M.plus c.args.base 1) ps (M.fresh es)) c.args.means.now.left);
       known = rw (c.plus-place.ensures, c.in-Ok.ensures) (no_pair_told l (λ n. refl) es c.args.base ps c.args.means.now.left);
     }
@@ -272,6 +284,7 @@ mapping::tally_pairs-loop-pair-preserved t c =
     record {
       within = omega (arith, c.loop-pair.invariant.within, c.in_ok-fate.ensures.1, one);
       none = c.loop-pair.invariant.none;
+      alike = c.loop-pair.invariant.alike;
       comes = rw (place, c.tally_pair.ensures) (pair_sorted l (λ n. refl) es c.args.base c.loop-pair.place both rest ps tally c.in_ok-fate.fate c.args.means.now.left c.loop-pair.means.left c.in-Some-checked_sub.some c.pair_fate.new.means.left here c.loop-pair.invariant.within one c.in_ok-fate.ensures);
       known = rw (c.told_with-told.ensures, place, c.tally_pair.ensures) (pair_told l (λ n. refl) es c.args.base c.loop-pair.place both rest ps tally c.loop-pair.told c.in_ok-fate.fate (length c.args.entries.now) c.args.means.now.left c.loop-pair.means.left c.in-Some-checked_sub.some c.pair_fate.new.means.left (as_many_entries c.args.entries.now) c.loop-pair.invariant.within one known c.in_ok-fate.ensures);
     }

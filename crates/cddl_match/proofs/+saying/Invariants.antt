@@ -4,13 +4,14 @@ use Rattle.item_nodes.specs.View.{pairs_view, view}
 use Rattle.cddl_meaning.specs.Forms as F
 use Rattle.cddl_meaning.specs.Judges.{Reply, Fails}
 use Rattle.cddl_meaning.specs.Moves as M
+use Rattle.table_nodes.specs.Fronts as Fronts
 use Rattle.table_nodes.specs.Language.{language_of}
 use Rattle.table_nodes.specs.Nodes.{alternatives_view, entries_view}
 use Rattle.table_nodes.specs.declared.nodes.TypeId.{TypeId}
 use Rattle.cddl_match.specs.Ahead.{ComesTo}
 use Rattle.cddl_match.specs.Choosing.{IsAsking, left_of}
 use Rattle.cddl_match.specs.Entering.{IsLead, IsLedTo}
-use Rattle.cddl_match.specs.Tellings.{AreTold, HandsOn, IsTallied}
+use Rattle.cddl_match.specs.Tellings.{AreTold, BeginAlike, HandsOn, IsTallied}
 use Rattle.match_moves.specs.Views.{parts_move, rounds_move, tally_view, values}
 use Rattle.cddl_match.specs.Within.{Replied, said_view}
 use Rattle.cddl_match.proofs.+saying.Given as goal
@@ -28,6 +29,7 @@ invariant-saying::choice_says-loop-member l = record {
 abbrev pub invariant-mapping::map_says-loop-way : goal.invariant-mapping::map_says-loop-way
 invariant-mapping::map_says-loop-way l = record {
   known : IsTallied (language_of l.fn.table) l.fn.base (pairs_view l.fn.pairs) l.tallied;
+  alike : (some : List (F.MapEntry TypeId)) → slice_get (alternatives_view l.fn.alternatives) (l.way - 1) ≡ Some some → Fronts.BeginAlike l.tallied.alike (entries_view l.tallied.entries.now) some;
   led : (some : List (F.MapEntry TypeId)) → slice_get (alternatives_view l.fn.alternatives) (l.way - 1) ≡ Some some → IfSome l.lead (IsLead (language_of l.fn.table) some);
   within : l.means.left ≤ l.fn.means.left;
   comes : (r : Reply) × (said_view l.sofar ≡ Replied r) × ComesTo (language_of l.fn.table) (M.next_way (alternatives_view l.fn.alternatives) l.fn.base (pairs_view l.fn.pairs) (Fails l.fn.base)) (M.next_way (alternatives_view (drop l.way l.fn.alternatives)) l.fn.base (pairs_view l.fn.pairs) r) (l.fn.means.left - l.means.left);
@@ -37,6 +39,7 @@ abbrev pub invariant-mapping::tally_pairs-loop-pair : goal.invariant-mapping::ta
 invariant-mapping::tally_pairs-loop-pair l = record {
   within : l.means.left ≤ l.fn.means.left;
   none : l.tallied.told ≡ None;
+  alike : BeginAlike l.tallied.alike l.tallied.entries.now l.fn.entries;
   comes : ComesTo (language_of l.fn.table) (M.next_pair (entries_view l.fn.entries) l.fn.base (M.plus l.fn.base 1) (pairs_view l.fn.pairs) (M.fresh (entries_view l.fn.entries))) (M.next_pair (entries_view l.fn.entries) l.fn.base l.place (pairs_view l.left) (tally_view l.tallied.tally)) (l.fn.means.left - l.means.left);
   known : IfSome l.told (λ told. AreTold (language_of l.fn.table) (entries_view l.fn.entries) l.fn.base (pairs_view l.fn.pairs) l.place (pairs_view l.left) (tally_view l.tallied.tally) told (l.fn.means.left - l.means.left));
 }

@@ -1,5 +1,5 @@
 use Rattle.std.proofs.Common.{◌-◌, ◌≤◌}
-use Rattle.cddl_match.specs.Tellings.{BeginAlike}
+use Rattle.table_nodes.specs.Fronts.{BeginAlike}
 use Rattle.cddl_match.proofs.tallied.begin_alike.Given as goal
 
 abbrev pub invariant-loop-same : goal.invariant-loop-same
