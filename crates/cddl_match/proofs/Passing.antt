@@ -83,9 +83,9 @@ module _ {N G : Type 0} (l : Language N G) where
       let fits : m ≤ length (drop from es) = omega (arith, there, inside, length-drop from es, alike.0) in
       let same : drop m (drop from es) ≡ drop at es = drop-drop m from es ∙ ap (λ j. drop j es) (sym there) in
       subst (ArePassed l k (drop from es)) same (first_passed k (drop from es) m fits (λ i e b is.
-          let below : from + i < n = omega (arith, b, there, inside) in
-          let here : slice_index_or owners (from + i) e ≡ e = same_at n owners es (from + i) e below alike.1 ∙ (sym (get_or-drop from es i e) ∙ is) in
-          subst (λ f. is_passed_over f e.key_type k ≡ true) (sym counted) (entries_passed l.type_at owners k from c next (from + i) e (omega arith) (omega (arith, b, there)) (slice_get_read owners (from + i) e (omega (arith, below, as_long n owners es alike.0 alike.1)) here))))
+      let below : from + i < n = omega (arith, b, there, inside) in
+      let here : slice_index_or owners (from + i) e ≡ e = same_at n owners es (from + i) e below alike.1 ∙ (sym (get_or-drop from es i e) ∙ is) in
+      subst (λ f. is_passed_over f e.key_type k ≡ true) (sym counted) (entries_passed l.type_at owners k from c next (from + i) e (omega arith) (omega (arith, b, there)) (slice_get_read owners (from + i) e (omega (arith, below, as_long n owners es alike.0 alike.1)) here))))
     where
       slice_get_read : (xs : List (MapEntry N)) (i : ℕ) (e : MapEntry N) → i < length xs → slice_index_or xs i e ≡ e → slice_get xs i ≡ Some e
       slice_get_read xs i e h is = (there xs i h).1 ∙ ap Some (sym (indexed xs i (there xs i h).0 e (there xs i h).1) ∙ is)

@@ -52,12 +52,7 @@ fn entry_at<'t>(table: &'t Table, group: GroupId) -> Option<Entered<'t>>
 // Whether the entry's type says yes to an item, and how many questions that takes, if not over `most`: by its major type, or by
 // tests alone.
 #[inline(always)]
-fn entry_tells(
-    table: &Table,
-    entered: Entered<'_>,
-    item: &Item,
-    most: u64,
-) -> Option<(bool, u64)>
+fn entry_tells(table: &Table, entered: Entered<'_>, item: &Item, most: u64) -> Option<(bool, u64)>
     ensures told { IsFormOf (language_of table.now) entered.entry.node (type_view entered.entry.form.now) entered.entry.types → IfSome result (λ it. IsTypeTold (language_of table.now) entered.entry.node (view item.now) it.0 it.1) }
     ensures within { IfSome result (λ it. it.1 ≤ most) }
 {

@@ -24,8 +24,8 @@ use crate::replies::{
 use cbor_item::Item;
 use match_held::{Cells, Shelf};
 use match_moves::{
-    Parts, Question, Reply, Round, Rounds, after_round, bytes_of, is_over, items_of, pairs_of, plus,
-    simple_of,
+    Parts, Question, Reply, Round, Rounds, after_round, bytes_of, is_over, items_of, pairs_of,
+    plus, simple_of,
 };
 use table_nodes::{Content, Group, GroupId, Node, Table, TagNumber, Test, Told, TypeId};
 

@@ -201,10 +201,16 @@ mapping::map_says-alternative_says-requires t c =
     let front : Fronts.BeginAlike c.front_for-front.result before.0 es = rw c.deref.ensures.value at (c.front_for-front.ensures ways before.0 c.requires before.1 (here ∙ ap (λ xs. Some (entries_view xs)) (sym c.deref.ensures.value))) in
     let led : IfSome c.lead_for-lead.result (IsLead l es) = rw c.deref-in-loop-way.ensures.value at (c.lead_for-lead.ensures ways before.0 c.requires (here ∙ ap (λ xs. Some (entries_view xs)) (sym c.deref-in-loop-way.ensures.value)) (subst (λ xs. Fronts.BeginAlike c.front_for-front.result before.0 (entries_view xs)) (sym c.deref-in-loop-way.ensures.value) front) (c.loop-way.invariant.led before.0 before.1)) in
     let both = alike_on c.loop-way.tallied.alike c.front_for-front.result (entries_view c.loop-way.tallied.entries.now) before.0 es (c.loop-way.invariant.alike before.0 before.1) front in
-    let same = sym c.deref-in-loop-way-2.ensures.value in
-    (omega arith, (c.loop-way.invariant.known, (
-      subst (λ xs. Fronts.BeginAlike c.min.result (entries_view c.loop-way.tallied.entries.now) (entries_view xs)) same (subst (λ n. Fronts.BeginAlike n (entries_view c.loop-way.tallied.entries.now) es) (omega (arith, c.min.ensures)) both),
-      subst (λ xs. IfSome c.lead_for-lead.result (IsLead l (entries_view xs))) same led)))
+    let same = sym c.deref-in-loop-way-2.ensures.value in (
+      omega arith,
+      (
+        c.loop-way.invariant.known,
+        (
+          subst (λ xs. Fronts.BeginAlike c.min.result (entries_view c.loop-way.tallied.entries.now) (entries_view xs)) same (subst (λ n. Fronts.BeginAlike n (entries_view c.loop-way.tallied.entries.now) es) (omega (arith, c.min.ensures)) both),
+          subst (λ xs. IfSome c.lead_for-lead.result (IsLead l (entries_view xs))) same led,
+        ),
+      ),
+    )
 
 pub mapping::map_says-loop-way-preserved : goal.mapping::map_says-loop-way-preserved
 mapping::map_says-loop-way-preserved t c =
