@@ -40,17 +40,18 @@ static int pass_on(const uint8_t *bytes, size_t length) {
     return 1;
 }
 
-// Says why a frame is dropped, in the words of the program: the line of its end.
-static void say_dropped(struct cddlseq_handle *handle, unsigned long number, const uint8_t *frame, size_t length) {
+// Says why a frame is dropped, which ends so: in the words of the program, the line of its end, or where there is no memory for
+// that by the offset alone.
+static void say_dropped(struct cddlseq_handle *handle, unsigned long number, const uint8_t *frame, size_t length, const struct cddlseq_end *end) {
     static uint8_t line[LONGEST_LINE];
-    struct cddlseq_end end;
+    struct cddlseq_end again;
     size_t needed;
     uint32_t status =
-        cddlseq_write_by(handle, frame, length, CDDLSEQ_END_LINE, &end, line, sizeof line, &needed);
+        cddlseq_write_by(handle, frame, length, CDDLSEQ_END_LINE, &again, line, sizeof line, &needed);
     if (status == CDDLSEQ_FAILED) {
         fprintf(stderr, "frame %lu dropped: %.*s", number, (int)needed, (const char *)line);
     } else {
-        fprintf(stderr, "frame %lu dropped at byte %lu\n", number, (unsigned long)end.offset);
+        fprintf(stderr, "frame %lu dropped at byte %llu\n", number, (unsigned long long)end->offset);
     }
 }
 
@@ -74,7 +75,7 @@ static int run(struct cddlseq_handle *handle) {
         } else if (status == CDDLSEQ_OK && end.items == 0) {
             fprintf(stderr, "frame %lu dropped: it is empty\n", number);
         } else if (status == CDDLSEQ_FAILED) {
-            say_dropped(handle, number, bytes + 2, length);
+            say_dropped(handle, number, bytes + 2, length, &end);
         } else if (!pass_on(bytes, 2 + length)) {
             return 1;
         }

@@ -57,5 +57,7 @@ def is_of_words(row):
 
 def is_of_program(row):
     """Whether what is told is the program's own text: its help or its version, or what is wrong with its words."""
-    has_no_command = not row["words"] or row["words"][0] not in COMMANDS
-    return has_no_command or is_of_words(row) or None in (row.get("stdout", ""), row.get("stderr", "")) or not OF_ITSELF.isdisjoint(row["words"])
+    words = row["words"]
+    has_no_command = not words or words[0] not in COMMANDS
+    options = words[: words.index("--")] if "--" in words else words
+    return has_no_command or is_of_words(row) or None in (row.get("stdout", ""), row.get("stderr", "")) or not OF_ITSELF.isdisjoint(options)

@@ -223,7 +223,8 @@ def told_of_itself(words: list[str]) -> str | None:
     if words[:1] in (["--version"], ["-V"]):
         return f"cddlseq {__version__}\n"
     asks = words[1:] if words and words[0] in COMMANDS else words[:1]
-    return __doc__ if {"-h", "--help"} & set(asks) or asks == ["help"] else None
+    options = asks[: asks.index("--")] if "--" in asks else asks
+    return __doc__ if {"-h", "--help"} & set(options) or asks == ["help"] else None
 
 
 def program(words: list[str]) -> int:
