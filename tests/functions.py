@@ -43,8 +43,8 @@ class Function:
         return 2 if len(self.path) > 1 and self.path[-2][:1].isupper() else 1
 
     def called(self, name):
-        """This function under another name, at the same lines."""
-        return replace(self, name=name, path=(*self.path[:-1], name))
+        """A copy of this function under another name, at the same lines. It is in no cycle of calls."""
+        return replace(self, name=name, path=(*self.path[:-1], name), cycle="")
 
     def holds(self, file, hunk):
         """Tells whether all lines of a change are in the body."""
@@ -129,6 +129,8 @@ def path_of(module, blocks, name, homes):
         return ()
     kind, shown = impl_of(around[0][1])
     home = homes.get(kind, set())
+    # a type of this module hides those of its name elsewhere
+    home = home & {module} or home
     return (*next(iter(home)), shown, name) if len(home) == 1 and not inner else ()
 
 
@@ -146,8 +148,12 @@ def impl_of(head):
 def above(lines, at):
     """The first line of what is above the function's head, and the cycle of calls that it names, or an empty text."""
     first, cycle = at, ""
-    while first and lines[first - 1].strip() and not lines[first - 1].rstrip().endswith(("{", "}", ";")):
+    while first and lines[first - 1].strip() and not ends_an_item(lines[first - 1]):
         first -= 1
         found = CYCLE.match(lines[first])
         cycle = found[1] if found else cycle
     return first, cycle
+
+
+def ends_an_item(line):
+    return line.rstrip().endswith(("{", "}", ";")) and not line.lstrip().startswith("//")

@@ -1,14 +1,16 @@
 """Copies of laws, each over definitions of its own, so that many edits of definitions can be tried in one check.
 
 A law is a function that is there for its contract. It rests on modules of its crate: files of definitions in specs/, and of
-lemmas in proofs/, each right there or in the folder of a module of the crate. A copy of it stands in a source file of its own. Of those modules that an edit reaches it has copies,
-with the edit, under other names. What no edit reaches is the same for all.
+lemmas in proofs/, each right there or in the folder of a module of the crate. A copy of it stands in a source file of its own. Of
+those modules that an edit reaches it has copies, with the edit, under other names. In these a lemma has its proof only where the
+law's proof comes to it. What no edit reaches is the same for all.
 """
 import os
 import re
 from collections import defaultdict
 from dataclasses import dataclass, replace
 
+from bare_lemmas import LEMMAS, opened_in, reached_from, without_proofs, words_of
 from functions import module_of
 
 MODULE = re.compile(r"(?:specs|proofs)/(?:[A-Z]\w*/)?[A-Z]\w*\.antt")
@@ -22,13 +24,14 @@ ITEM = re.compile(r"^(pub(?:\([^)]*\))? )?(?:const |unsafe )*(?:fn|struct|enum|c
 @dataclass(frozen=True)
 class Copy:
     """A copy of a law with an edit, or with none. It is in a source file of this name, and the modules that are copied for it
-    have this mark behind their names."""
+    have this mark behind their names. In these the lemmas of these names, and what is opened, have their proofs."""
 
     law: object
     edit: object
     name: str
     mark: str
     copied: frozenset
+    whole: frozenset
 
     def function(self):
         return replace(self.law, file=f"src/{self.name}.rt", path=(self.name, self.law.name))
@@ -43,6 +46,7 @@ class Laws:
 
     def __init__(self, crate, sources, specs, proofs):
         self.own, self.proofs, self.texts = f"Rattle.{crate}", proofs, {**specs, **proofs, **sources}
+        self.opened = opened_in(proofs)
         files = [it for it, text in self.texts.items() if MODULE.fullmatch(it) and not DECLARATIONS.fullmatch(text)]
         self.files = {it.removesuffix(".antt").replace("/", "."): it for it in files}
         own = "|".join(map(re.escape, sorted(self.files, key=len, reverse=True)))
@@ -80,11 +84,19 @@ class Laws:
         law_of = {edit: law for edit, law in law_of.items() if self.can_be_copied(edit, law)}
         below = {law: self.below(self.named_by(law)) for law in law_of.values()}
         changed = {edit: {it for it, file in self.files.items() if file in edit.texts} for edit in law_of}
+        whole = {law: self.lemmas_of(law, below[law]) for law in below}
         plain = self.reached(set().union(*below.values()), set().union(*changed.values()))
-        found = [Copy(law, None, f"plain_{at}", "Plain", plain) for at, law in enumerate(below)]
+        of_all = frozenset().union(*whole.values())
+        found = [Copy(law, None, f"plain_{at}", "Plain", plain, of_all) for at, law in enumerate(below)]
         for at, (edit, law) in enumerate(law_of.items()):
-            found.append(Copy(law, edit, f"tried_{at}", f"Tried{at}", self.reached(below[law], changed[edit])))
+            found.append(Copy(law, edit, f"tried_{at}", f"Tried{at}", self.reached(below[law], changed[edit]), whole[law]))
         return found
+
+    def lemmas_of(self, law, modules):
+        """The names of the lemmas that the law's proof reaches in these modules, and those that are opened."""
+        texts = [self.texts[self.files[it]] for it in modules if LEMMAS.fullmatch(self.files[it])]
+        own = [text_of(law, self.texts[law.file]), *(self.proofs[it] for it in self.files_of(law))]
+        return frozenset(reached_from(words_of("\n".join(own)), texts) | self.opened)
 
     def reached(self, modules, changed):
         """Those of the modules that rest on a changed one, or are one."""
@@ -113,7 +125,9 @@ class Laws:
             for module in copy.copied:
                 file = self.files[module]
                 folder, name = os.path.split(file.removesuffix(".antt"))
-                made[f"{folder}/{name}{copy.mark}.antt"] = self.over_copies(copy, copy.edited(file, self.texts[file]))
+                text = copy.edited(file, self.texts[file])
+                text = without_proofs(text, copy.whole) if LEMMAS.fullmatch(file) else text
+                made[f"{folder}/{name}{copy.mark}.antt"] = self.over_copies(copy, text)
                 added[declaring(folder)].append(f"pub mod {name}{copy.mark}")
             made.update(self.law_and_proof(copy))
             added["src/lib.rt"].append(f"pub mod {copy.name};")

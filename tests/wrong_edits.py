@@ -3,9 +3,9 @@
 
     wrong_edits.py [--rt COMMAND] [--anew] [--inner] [NAME..]
 
-With --inner the edits of wrong/inner/ are tried too, of which the gate only sees that they apply. An edit has the format of the kit's must-fail edits. The last line is 'N passed, M failed', and the status is 0 only
-where none failed. The crates below are taken from crates/*/out/rlib where that is newer than their sources, as 'rt ci'
-leaves it, and are proved here where it is not.
+With --inner the edits of wrong/inner/ are tried too, of which the gate only sees that they apply. An edit has the format of the
+kit's must-fail edits. The last line is 'N passed, M failed', and the status is 0 only where none failed. The crates below are taken
+from crates/*/out/rlib where that is newer than their sources, as 'rt ci' leaves it, and are proved here where it is not.
 
 What was refused is kept, by a sum of the kit, of this script, of the crate and those below it, and of the edit: on this machine,
 beside what 'rt ci' keeps, or where the kit keeps nothing in build/refused. A later run takes it from there, so one that was broken
@@ -16,14 +16,12 @@ import collections
 import dataclasses
 import difflib
 import functools
-import hashlib
 import importlib.machinery
 import importlib.util
 import os
 import re
 import shlex
 import shutil
-import subprocess
 import sys
 import tempfile
 from concurrent.futures import ThreadPoolExecutor, as_completed
@@ -32,15 +30,19 @@ from contextlib import contextmanager
 from bare_lemmas import bare_lemmas
 from functions import CYCLE, HEAD, functions_of
 from law_copies import Laws
+from recursion import without_recursion
+from refused import results_of
+from together import Answer, Question, answered, in_groups, run, went_through, write_texts
+from unreached import IMPORT, shorter_imports, unreached
 
 TOP = os.path.dirname(os.path.dirname(os.path.abspath(__file__)))
-SCRIPT = ("bare_lemmas.py", "functions.py", "law_copies.py", "wrong_edits.py")
-# What tells one kit from another.
-OF_KIT = ("WHAT", "KIT-ID", "bin/rt", "bin/rtlib.py")
-# What was refused, where the kit keeps nothing.
-REFUSED_HERE = f"{TOP}/build/refused"
 ONE_JOB = ["--jobs", "1"]
 MOST_AT_ONCE = 3
+# What one check is to weigh at most, of what each crate, body and law in it weighs: about the processor seconds that it takes. The
+# more, the less all of them cost, and the more memory each takes.
+MOST_IN_ONE, WEIGHT_OF_CRATE, WEIGHT_OF_BODY, WEIGHT_OF_LAW = 300, 3, 2.5, 0.8
+# The memory that one check is reckoned to take.
+MEMORY_OF_ONE = 4_000_000_000
 NAME = re.compile(r"[A-Za-z0-9_-][A-Za-z0-9_.-]*\.edit")
 NAMING = "its name is of letters, digits, _, - and . and ends in .edit"
 # What the line of an edit ends with that costs a check with all bodies, for itself or with others.
@@ -53,9 +55,14 @@ BARE_BODY = "loop {}"
 BARE_PROOF = """\
 use Rattle.{crate}.proofs.{path}.Statement.{{statement}}
 
+nothing : ⊥
+nothing = ?
+
 pub {name}_spec : {{M : Type 1}} → statement M
-{name}_spec = ?
+{name}_spec = absurd nothing
 """
+# The file of a proof by hand.
+BY_HAND = "Proof.antt"
 WITH_HOLES = ["--allow-holes"]
 # What is added to the answers of a function that is asked for. Where goals have no answer the prover runs once more, to offer
 # what could be written there, but not where a file of answers has an error. So this is one, of a name that is no goal's.
@@ -75,8 +82,6 @@ NOTE = re.compile(r"note: \S+:\d+:\d+: ")
 IS_REFUSED = re.compile(r"no proof: expected |not proved(?!.*\bit (?:calls|passes) )")
 STANDS_ON = re.compile(r"not proved; it stands on `([^`]*)`")
 RESTS = re.compile(r"(?:no proof: |not proved; )(?:in .*: )?it (?:calls|passes) ")
-# The processor time of each check of a crate, by its name.
-TIMES = collections.defaultdict(list)
 
 
 def load_kit(command):
@@ -91,66 +96,6 @@ def load_kit(command):
 def is_refusal(kit, said):
     """Whether the kit's answer on an edit is that it is refused: some kits answer a truth value, others one of their words."""
     return said if isinstance(said, bool) else said in (kit.REFUSED, kit.AT_LIMIT)
-
-
-def sum_of_script():
-    return [hashlib.sha256(open(f"{TOP}/tests/{it}", "rb").read()).hexdigest() for it in SCRIPT]
-
-
-class ResultsOfKit:
-    """What earlier runs on this machine were told of edits that are refused, in a kit that keeps such results."""
-
-    def __init__(self, kit, crates, anew):
-        self.kit, self.stamps, self.script = kit, {}, sum_of_script()
-        self.kept = kit.Kept(crates, anew)
-
-    def name(self, crate, path):
-        sum = hashlib.sha256(repr((self.script, self.kit.stamp_of(crate, self.stamps))).encode()).hexdigest()
-        return self.kept.of_edit(path, sum)
-
-    def of(self, crate, path):
-        """What an earlier run was told of this edit, or None."""
-        found = self.kept.tried(self.name(crate, path))
-        return found[1] if found and found[0] == self.kit.REFUSED else None
-
-    def keep(self, crate, told):
-        """Keeps what was told of each of these edits, which are refused, unless a file that they rest on was changed meanwhile."""
-        if all(map(self.kept.is_untouched, [crate, *crate.below()])):
-            for path, text in told.items():
-                self.kept.keep_tried(self.name(crate, path), self.kit.REFUSED, text)
-
-
-class ResultsHere:
-    """The same in a folder of this checkout, for a kit that keeps none: of each edit a file with what was told of it."""
-
-    def __init__(self, kit, crates, anew):
-        self.lib, self.anew, self.files = kit.rtlib, anew, {}
-        self.rest = sum_of_script(), [self.lib.sum_of(f"{self.lib.KIT}/{it}") for it in OF_KIT]
-        self.made_of = {it.name: self.files_of(it) for it in crates}
-
-    def files_of(self, crate):
-        return crate.said, [(it, self.lib.sum_of(it)) for it in self.lib.files_of(crate.folder)]
-
-    def of(self, crate, path):
-        with open(path, "rb") as edit:
-            whole = self.rest, [self.made_of[it.name] for it in [*crate.below(), crate]], path, edit.read()
-        self.files[path] = f"{REFUSED_HERE}/{hashlib.sha256(repr(whole).encode()).hexdigest()}"
-        return None if self.anew else self.lib.text_of(self.files[path])
-
-    def keep(self, crate, told):
-        if any(self.made_of[it.name] != self.files_of(it) for it in [*crate.below(), crate]):
-            return
-        os.makedirs(REFUSED_HERE, exist_ok=True)
-        for path, text in told.items():
-            with open(f"{self.files[path]}.part", "w", encoding="utf-8") as file:
-                file.write(text)
-            os.replace(f"{self.files[path]}.part", self.files[path])
-
-
-def results_of(kit, crates, anew):
-    """What is known of edits that are refused, from earlier runs and for later ones."""
-    keeps = all(hasattr(kit, it) for it in ("Kept", "stamp_of", "REFUSED"))
-    return ResultsOfKit(kit, crates, anew) if keeps else ResultsHere(kit, crates, anew)
 
 
 def hunks(old, new):
@@ -209,7 +154,8 @@ class Trial:
         self.is_proved = is_proved or is_fresh(kit, crate)
         self.sources = texts_below(crate.folder, "src", ".rt")
         self.proofs = texts_below(crate.folder, "proofs", ".antt")
-        self.of_laws = Laws(crate.name, self.sources, texts_below(crate.folder, "specs", ".antt"), self.proofs)
+        self.specs = texts_below(crate.folder, "specs", ".antt")
+        self.of_laws = Laws(crate.name, self.sources, self.specs, self.proofs)
         self.functions = functions_of(self.sources)
         paths = [it.path for it in self.functions]
         self.doubles = {it for it in paths if paths.count(it) > 1}
@@ -218,6 +164,8 @@ class Trial:
         # the files of lemmas without the proofs in them, as far as checks can read them so
         self.bare = {file: text for file, text in bare_lemmas(self.proofs).items() if text != self.proofs[file]}
         self.is_ill = False
+        # whether checks over bare functions do without those that nothing names, and the crates that are not this one
+        self.is_short, self.others = True, {"std", "core", "alloc", *crate.of_kit, *(it.name for it in crate.deps)}
 
     def tells_of(self, function):
         """Whether the lines of a check tell what becomes of this function's body, whatever becomes of other bodies."""
@@ -229,7 +177,8 @@ class Trial:
         )
 
     def run(self):
-        """The lines on each edit, with whether it is refused."""
+        """The lines on each edit, with whether it is refused. It yields what it asks, a question to a check of many crates or a
+        call that makes a check by itself, and goes on with what is answered."""
         good, bad = edits_of(self.crate)
         told = [(False, f"{self.label(it)}: BAD EDIT: an edit is in wrong/ or wrong/inner/, and {NAMING}") for it in bad]
         inner = [it for it in good if os.path.basename(os.path.dirname(it)) == INNER]
@@ -240,16 +189,14 @@ class Trial:
         known = {it: self.results.of(self.crate, it) for it in good}
         told += [(True, f"{text} (by an earlier run)") for text in known.values() if text]
         edits = [Edit(self, it) for it in good if not known[it]]
-        return told + self.tried(edits) if edits else told
+        return told + (yield from self.tried(edits)) if edits else told
 
     def tried(self, edits):
         """The lines on these edits, with whether each is refused."""
         told = []
-        with tempfile.TemporaryDirectory(prefix="wrong-") as room:
-            kept = self.folder_of_proofs(room)
-            refused = self.try_many([it for it in edits if it.function], [it for it in edits if it.law], kept)
-            by_law = self.try_laws([it for it in edits if it.law and not refused.get(it)], kept)
-            alone = self.try_alone([it for it in edits if not it.law and not refused.get(it)], kept)
+        refused = yield from self.try_many([it for it in edits if it.function], [it for it in edits if it.law])
+        by_law = yield from self.try_laws([it for it in edits if it.law and not refused.get(it)])
+        alone = yield from self.try_alone([it for it in edits if not it.law and not refused.get(it)])
         for edit in edits:
             way = f" {OVER_WHOLE}" if edit in self.over_whole else ""
             said = by_law.get(edit) or f"refused, as it must be: {refused.get(edit, '')[:160]}{way}"
@@ -257,53 +204,58 @@ class Trial:
         self.results.keep(self.crate, {edit.path: text for edit, (is_refused, text) in zip(edits, told) if is_refused})
         return told
 
-    def folder_of_proofs(self, room):
-        """The folder in which this run's checks keep proofs. It begins with what the crate's own checks kept, if they did."""
-        own = f"{self.crate.folder}/out/incremental"
-        return shutil.copytree(own, f"{room}/kept") if os.path.isdir(own) else room
-
-    def try_laws(self, edits, kept):
+    def try_laws(self, edits):
         """What is to be told of each edit that names a law, after a check of this law alone with the edit. Where it is not known
         that the crate is proved, its laws are checked without an edit first."""
         laws = {"::".join(it.path): it for it in self.functions if any(it.is_named(edit.law) for edit in edits)}
         if laws and not self.is_proved:
-            found = self.check({}, dict.fromkeys(laws.values()), kept, is_silent=False)[1]
+            found = (yield from self.check({}, dict.fromkeys(laws.values()), is_silent=False))[1]
             laws = {path: it for path, it in laws.items() if (it, "proved") in [(of, said) for of, said, _ in found]}
-        return {edit: self.said_of(edit, laws.get(edit.law), kept) for edit in edits}
+        return dict(zip(edits, (yield from at_once([self.said_of(it, laws.get(it.law)) for it in edits]))))
 
-    def said_of(self, edit, law, kept):
+    def said_of(self, edit, law):
         """What is to be told of one such edit: a law tells nothing where it is not proved without the edit."""
         if edit.why or not law:
             return f"BAD EDIT: {edit.why or 'no law of this path is proved without it'}"
-        is_whole, found = self.check(edit.texts, {law: edit}, kept, is_silent=False)
+        is_whole, found = yield from self.check(edit.texts, {law: edit}, is_silent=False)
         why = [why for of, said, why in found if of == law and IS_REFUSED.match(said)]
         if not is_whole:
             return "BAD EDIT: it does not compile or read"
         return f"refused, as it must be: {why[0][:160]}" if why else "NOT REFUSED: its law is proved even so"
 
-    def try_many(self, edits, by_law, kept):
+    def try_many(self, edits, by_law):
         """What checks of many edits say of each that they refuse: over bare functions, and then of what is left with all
         bodies. Where a callee is refused, not all goals of its callers are tried. So an edit is made in its function where no
         other edited one calls it, and else in a copy of the function beside it. Those by a law are made in copies of the laws, in
-        the first of these checks."""
-        refused, left = {}, edits
+        the first turn. What calls itself is edited in a copy that does not, and in the function where that copy is not refused."""
         copied = self.of_laws.copies({it: law for it in by_law for law in self.functions if law.is_named(it.law)})
-        while left or copied:
-            placed, beside = self.turn_of(left)
-            refused.update(self.try_over_bare(placed, beside, copied, kept))
-            left = [it for it in left if it not in placed and it not in beside and it not in self.broken]
-            copied = []
-        whole = self.try_over_whole([it for it in edits if it not in refused and it not in self.broken], kept)
+        refused = yield from self.try_in_turns(edits, copied)
+        left = [it for it in edits if not refused.get(it) and it not in self.broken and self.is_recursive(it.function)]
+        refused.update((yield from self.try_in_turns(left, are_in_place=True)))
+        whole = yield from self.try_over_whole([it for it in edits if it not in refused and it not in self.broken])
         self.over_whole.update(whole)
         return {**refused, **whole}
 
-    def turn_of(self, left):
+    def try_in_turns(self, edits, by_law=(), are_in_place=False):
+        """What checks over bare functions say of each edit that they refuse, as many as can tell them apart, asked at once."""
+        turns, left = [], edits
+        while left or by_law:
+            placed, beside = self.turn_of(left, are_in_place)
+            turns.append(self.try_over_bare(placed, beside, by_law))
+            left, by_law = [it for it in left if it not in placed and it not in beside], ()
+        found = yield from at_once(turns)
+        return {edit: why for each in found for edit, why in each.items()}
+
+    def turn_of(self, left, are_in_place):
         """Those of the edits that one check over bare functions can tell apart: made in place, and made beside."""
-        copied = [it for it in left if self.can_stand_beside(it.function)]
-        firsts = apart([*[it for it in left if it not in copied], *copied], lambda it, other: False)
+        recursive = [it for it in left if self.is_recursive(it.function)]
+        copied = [it for it in left if self.can_stand_beside(it.function) and not (are_in_place and it in recursive)]
+        others = [it for it in copied if it not in recursive]
+        firsts = apart([*[it for it in left if it not in copied], *others], lambda it, other: False)
         tried = list(dict.fromkeys([*firsts, *copied]))
         placed = [it for it in firsts if not any(self.calls(other, it) for other in tried)]
-        beside = [it for it in copied if it not in placed]
+        groups = {it.function.group() for it in placed if it.function.cycle}
+        beside = [it for it in copied if it not in placed and it.function.group() not in groups]
         return (placed, beside) if placed or beside else (left[:1], [])
 
     def calls(self, edit, other):
@@ -312,27 +264,51 @@ class Trial:
         of_group = {it.name for it in self.functions if it.group() == other.function.group()}
         return edit.function.group() != other.function.group() and not of_group.isdisjoint(edit.words)
 
-    def try_over_bare(self, placed, beside, by_law, kept):
+    def try_over_bare(self, placed, beside, by_law):
         """What one check says of each edit that it refuses, where the functions that have none have neither a body nor a proof,
         with these copies of laws beside them."""
         copies, edited = self.copies(beside), {it.function.group() for it in placed}
         bare = [it for it in self.functions if it.group() not in edited and self.can_be_bare(it)]
-        texts = self.of_laws.with_copies(by_law, {**self.bare, **self.with_copies(copies, placed, bare)})
+        gone = self.unreached(bare, copies, placed, by_law) if self.is_short else []
+        texts = self.of_laws.with_copies(by_law, {**self.bare, **self.with_copies(copies, placed, bare, gone)})
         copies += [(it.edit, it.law, it.function()) for it in by_law]
         tried = {**{it.function: it for it in placed}, **{copy: edit for edit, _, copy in copies}}
-        is_whole, found = self.check(texts, tried, kept, WITH_HOLES)
+        is_whole, found = yield from self.check(texts, tried, WITH_HOLES)
         if self.is_ill:
+            print(f"{self.crate.name} is checked again, with its lemmas whole: one has an error without its proof", flush=True)
             self.bare, self.is_ill = {}, False
-            return self.try_over_bare(placed, beside, by_law, kept)
+            return (yield from self.try_over_bare(placed, beside, by_law))
+        if not is_whole and gone:
+            print(f"{self.crate.name} is checked again, with all of its functions: it does not compile without some", flush=True)
+            self.is_short, self.broken = False, self.broken - set(tried.values())
+            return (yield from self.try_over_bare(placed, beside, by_law))
         if not is_whole:
             left = [[it for it in each if it not in self.broken] for each in (placed, beside)]
             is_again = bool(by_law) or left != [placed, beside]
-            return self.try_over_bare(*left, [], kept) if any(left) and is_again else {}
+            return (yield from self.try_over_bare(*left, [])) if any(left) and is_again else {}
         found = [(of, "not proved" if of and self.is_refused_itself(of, words) else "proved", why) for of, words, why in found]
         beside_them = {copy for _, _, copy in copies}
         whys = {of.group(): why for of, words, why in found if words != "proved" and of not in beside_them}
         in_place = {it: whys[it.function.group()] for it in placed if it.function.group() in whys}
         return {**in_place, **refused_beside(copies, found)}
+
+    def unreached(self, bare, copies, placed, by_law):
+        """Those of the bare functions that nothing names which is asked of: neither an edited function, nor a law or a lemma."""
+        laws, copied = [it.law for it in by_law], [of for _, of, _ in copies]
+        texts = [own_text(it, self.sources) for it in [*laws, *copied, *(it.function for it in placed)]]
+        texts += [found[0] for it in laws for found in IMPORT.finditer(self.sources[it.file])]
+        texts += [name for it in laws for _, name in self.of_laws.beside(it)]
+        texts += [word for it in [*placed, *(edit for edit, _, _ in copies if edit)] for word in it.words]
+        replaced = {file for it in bare for file in self.proofs_of(it)}
+        cited = [text for file, text in self.proofs.items() if file not in replaced] + list(self.specs.values())
+        # a copy has the files of the proof with another name for its own, and that of a law another for its contract too
+        for it in copied:
+            own = rf"proofs\.(?:{re.escape(it.proof())}|{re.escape(it.proof_of_calls())})\."
+            cited += [re.sub(own, "", self.proofs[file]) for file in self.files_gone_with(it)]
+        for it in laws:
+            own = rf"(?:proofs|contracts)\.{re.escape(it.proof())}\b"
+            cited += [re.sub(own, "", self.proofs[file]) for file in self.proofs_of(it)]
+        return unreached(self.sources, bare, texts, cited)
 
     def can_be_bare(self, function):
         """Whether the function can do without its body and its proof where it is only called."""
@@ -352,15 +328,15 @@ class Trial:
         own = tuple(f"Rattle.{self.crate.name}.proofs.{it}." for it in (function.proof(), function.proof_of_calls()))
         return bool(stands_on) and stands_on[1].startswith(own)
 
-    def try_over_whole(self, edits, kept):
+    def try_over_whole(self, edits):
         """What checks of many edits say of each that they refuse, with the bodies of the functions that have none."""
         placed = [it for it in apart(edits, lambda it, other: False) if not any(self.leads(other, it) for other in edits)]
         beside = [it for it in edits if it not in placed and self.can_stand_beside(it.function)]
-        refused = self.try_at_once(placed, beside, kept)
+        refused = yield from self.try_at_once(placed, beside)
         left = [it for it in edits if it not in refused and it not in self.broken]
         while left:
             turn = apart(left, self.reaches)
-            refused.update(self.try_together(turn, kept))
+            refused.update((yield from self.try_together(turn)))
             left = [it for it in left if it not in turn]
         return refused
 
@@ -372,25 +348,30 @@ class Trial:
         """Whether the one edit's function calls the other's, which has another proof."""
         return edit.function.group() != other.function.group() and self.reaches(edit, other)
 
-    def try_at_once(self, placed, beside, kept):
+    def try_at_once(self, placed, beside):
         """What one check says of each edit that it refuses: of those made in their functions, and of those made beside."""
         copies = self.copies(beside)
         tried = {**{it.function: it for it in placed}, **{copy: edit for edit, _, copy in copies}}
-        is_whole, found = self.check(self.with_copies(copies, placed), tried, kept) if tried else (True, [])
+        is_whole, found = (yield from self.check(self.with_copies(copies, placed), tried)) if tried else (True, [])
         groups, beside_them = {it.function.group() for it in placed}, {copy for _, _, copy in copies}
         others = [words for of, words, _ in found if of not in beside_them and not (of and of.group() in groups)]
         if not is_whole or not all(it == "proved" or RESTS.match(it) for it in others):
             left = [[it for it in each if it not in self.broken] for each in (placed, beside)]
             if left != [placed, beside]:
-                return self.try_at_once(*left, kept)
-            return {**self.try_together(placed, kept), **self.try_beside(beside, kept)}
+                return (yield from self.try_at_once(*left))
+            in_place = yield from self.try_together(placed)
+            return {**in_place, **(yield from self.try_beside(beside))}
         whys = {of.group(): why for of, words, why in found if of and of not in beside_them and IS_REFUSED.match(words)}
         in_place = {it: whys[it.function.group()] for it in placed if it.function.group() in whys}
         return {**in_place, **refused_beside(copies, found)}
 
     def can_stand_beside(self, function):
-        """Whether a copy under another name has the same goals: a method of a trait, or one that calls itself, does not."""
-        return not (function.cycle or function.is_of_trait or self.calls_itself(function) or self.crate.is_program)
+        """Whether a copy under another name has the same goals: a method of a trait does not."""
+        return not (function.is_of_trait or self.crate.is_program)
+
+    def is_recursive(self, function):
+        """Whether the function calls itself, or is in a cycle of calls: a copy of it does not."""
+        return bool(function.cycle) or self.calls_itself(function)
 
     def calls_itself(self, function):
         """Whether the function, of this name or the copy that it is, calls itself, as far as its text tells."""
@@ -401,34 +382,47 @@ class Trial:
         """The files of the function's proof, which name its path."""
         return [it for it in self.proofs if it.startswith(f"proofs/{function.proof().replace('.', '/')}/")]
 
-    def try_beside(self, edits, kept):
+    def try_beside(self, edits):
         """What one check says of each edit, made in a copy of its function beside it, under another name: an
         empty text where that is proved. A function whose proof has files gets a copy without an edit too, since the files
         are changed with the name; an edit is left out where that copy is not proved."""
         if not edits:
             return {}
         copies = self.copies(edits)
-        is_whole, found = self.check(self.with_copies(copies), {copy: edit for edit, _, copy in copies}, kept)
+        is_whole, found = yield from self.check(self.with_copies(copies), {copy: edit for edit, _, copy in copies})
         beside_them = {copy for _, _, copy in copies}
         if not is_whole or not all(words == "proved" for of, words, _ in found if of not in beside_them):
-            return self.in_parts(self.try_beside, edits, kept)
+            return (yield from self.in_parts(self.try_beside, edits))
         return refused_beside(copies, found)
 
     def copies(self, edits):
         """The copies of the edited functions, one with each edit and where it is needed one without: the edit, the function
-        and the copy. It is needed where the proof names the function's contract, which is another one than the copy's."""
+        and the copy. It is needed where the proof names the function's contract, which is another one than the copy's, or is
+        written anew for the copy."""
         found = []
         for of in dict.fromkeys(it.function for it in edits):
             is_named = any(f"contracts.{of.proof()}" in self.proofs[it] for it in self.proofs_of(of))
-            own = [None][:is_named] + [it for it in edits if it.function == of]
+            own = [None][: is_named or self.is_written_anew(of)] + [it for it in edits if it.function == of]
             found += [(edit, of, of.called(f"{of.name}_tried_{at}")) for at, edit in enumerate(own)]
         return found
 
-    def with_copies(self, copies, placed=(), bare=()):
-        """The texts of the files with these copies, with these edits in place and with these functions bare, and of the proofs
-        of the copies and of what is bare, or None for a file that has to go."""
+    def is_written_anew(self, function):
+        """Whether a copy of the function has an answer or an invariant that is written otherwise than the function's."""
+        files = self.files_gone_with(function) if self.is_recursive(function) else []
+        return any(": goal." in self.proof_of_copy(it, function, function.called(function.name)) for it in files)
+
+    def with_copies(self, copies, placed=(), bare=(), gone=()):
+        """The texts of the files with these copies, with these edits in place and with these functions bare, some of them gone, and
+        of the proofs of the copies and of what is bare, or None for a file that has to go."""
         parts, texts = collections.defaultdict(list), {}
-        for it in bare:
+        left = {it.name for it in self.functions if it not in gone}
+        names = {it.name for it in gone} - left
+        for file, text in self.sources.items() if gone else ():
+            parts[file] += shorter_imports(text, names, self.others)
+        for it in gone:
+            parts[it.file].append((it.first, it.last + 1, []))
+            texts.update(dict.fromkeys(self.files_gone_with(it)))
+        for it in (it for it in bare if it not in gone):
             lines = self.sources[it.file].split("\n")
             parts[it.file].append((it.opens, it.last + 1, without_body(lines, it)))
             parts[it.file] += [(at, at + 1, []) for at in range(it.first, it.head) if CYCLE.match(lines[at])]
@@ -443,56 +437,74 @@ class Trial:
             item[of.head - of.first] = re.sub(rf"\bfn {of.name}\b", f"fn {copy.name}", item[of.head - of.first], count=1)
             # at the end of its file, if it is no method: a function whose lines move is checked anew
             at = of.last + 1 if item[of.head - of.first].startswith(" ") else len(old) - 1
-            parts[of.file].append((at, at, ["", *item]))
-            for file in self.proofs_of(of):
+            parts[of.file].append((at, at, ["", *(it for it in item if not CYCLE.match(it))]))
+            for file in self.files_gone_with(of) if self.is_recursive(of) else self.proofs_of(of):
                 to = f"proofs/{copy.proof().replace('.', '/')}/{os.path.basename(file)}"
-                texts[to] = self.proofs[file].replace(f"proofs.{of.proof()}.", f"proofs.{copy.proof()}.")
+                texts[to] = self.proof_of_copy(file, of, copy)
         return {**texts, **{file: "\n".join(with_hunks(self.sources[file].split("\n"), it)) for file, it in parts.items()}}
+
+    def proof_of_copy(self, file, of, copy):
+        """The text of a file of the function's proof for its copy. A proof by hand names the contract, and itself by the function's
+        name."""
+        text = self.proofs[file].replace(f"proofs.{of.proof()}.", f"proofs.{copy.proof()}.")
+        if self.is_recursive(of):
+            text = text.replace(f"proofs.{of.proof_of_calls()}.", f"proofs.{copy.proof()}.")
+            text = without_recursion(text, of.name, [it.name for it in self.functions if of.cycle and it.group() == of.group()])
+        if os.path.basename(file) != BY_HAND:
+            return text
+        text = re.sub(rf"\bcontracts\.{re.escape(of.proof())}\b", f"contracts.{copy.proof()}", text)
+        return re.sub(rf"\b{of.name}_spec\b", f"{copy.name}_spec", text)
 
     def bare_proof(self, function):
         """The files of a proof of the function that says nothing, and None for each that it has."""
         alone = dataclasses.replace(function, cycle="")
         names = {"crate": self.crate.name, "path": alone.proof(), "name": function.name}
-        file = f"proofs/{alone.proof().replace('.', '/')}/Proof.antt"
+        file = f"proofs/{alone.proof().replace('.', '/')}/{BY_HAND}"
+        return {**dict.fromkeys(self.files_gone_with(function)), file: BARE_PROOF.format(**names)}
+
+    def files_gone_with(self, function):
+        """The files of the function's proof, in all places that it may have."""
         of_calls = f"proofs/{function.proof_of_calls().replace('.', '/')}/"
-        gone = [*self.proofs_of(function), *self.proofs_of(alone), *[it for it in self.proofs if it.startswith(of_calls)]]
-        return {**dict.fromkeys(gone), file: BARE_PROOF.format(**names)}
+        alone = self.proofs_of(dataclasses.replace(function, cycle=""))
+        return [*self.proofs_of(function), *alone, *[it for it in self.proofs if it.startswith(of_calls)]]
 
     def label(self, path):
         return f"wrong {self.crate.name}/{os.path.basename(path)}"
 
-    def try_together(self, edits, kept):
+    def try_together(self, edits):
         """What the check says of each edit that it refuses by the edited function, with all of these edits made."""
         if not edits:
             return {}
-        is_whole, found = self.check(together(edits, self.sources), {it.function: it for it in edits}, kept)
+        is_whole, found = yield from self.check(together(edits, self.sources), {it.function: it for it in edits})
         groups = {it.function.group() for it in edits}
         found = [(of and of.group(), said, why) for of, said, why in found]
         # what has no edit is never refused for itself: else one edit reaches into another's function
         is_clear = is_whole and all(of in groups or said == "proved" or RESTS.match(said) for of, said, _ in found)
         if not is_clear and len(edits) > 1:
-            return self.in_parts(self.try_together, edits, kept)
+            return (yield from self.in_parts(self.try_together, edits))
         whys = {of: why for of, said, why in found if IS_REFUSED.match(said)}
         return {it: whys[it.function.group()] for it in edits if it.function.group() in whys}
 
-    def in_parts(self, way, edits, kept):
+    def in_parts(self, way, edits):
         """Tries the edits again without those that do not compile, or where none is known to be so in halves."""
         left = [it for it in edits if it not in self.broken]
         if len(left) < len(edits):
-            return way(left, kept)
+            return (yield from way(left))
         half = len(edits) // 2
-        return {**way(edits[:half], kept), **way(edits[half:], kept)} if half else {}
+        first = (yield from way(edits[:half])) if half else {}
+        return {**first, **(yield from way(edits[half:]))} if half else {}
 
-    def check(self, texts, functions, kept, more=(), is_silent=True):
-        """Checks these functions, each with its edit, and what they call. Returns whether the check went through, and of
-        each line on a function the function, what is said, and why: the note above, or an error in its proof."""
-        flags = [*ONE_JOB, *more, *(word for it in functions for word in ("--only", "::".join([self.crate.name, *it.path])))]
+    def check(self, texts, functions, more=(), is_silent=True):
+        """Asks of these functions, each with its edit. Returns whether the check went through, and of each line on a function the
+        function, what is said, and why: the note above, or an error in its proof."""
         silent = {it.proof(): self.without_offers(it, texts) for it in functions if is_silent and self.can_be_silent(it, texts)}
         added = {file: text for each in silent.values() for file, text in each.items()}
-        ran = checked(self.kit, self.crate, {**texts, **added}, flags, kept)
-        lines = ran.stdout.rstrip("\n").split("\n")
+        weight = WEIGHT_OF_CRATE + sum(WEIGHT_OF_LAW if self.is_copy_of_law(it) else WEIGHT_OF_BODY for it in functions)
+        asked = Question(self.crate, {**texts, **added}, [it.path for it in functions], (*ONE_JOB, *more), weight)
+        said = (yield [asked])[asked]
+        lines = said.lines
         self.is_ill = any(it.removeprefix("./").split(":")[0] in self.bare and ": error: " in it for it in lines)
-        is_whole = ran.returncode in (0, 1) and lines[-1].startswith("only=") and not any(self.kit.unread(it, ()) for it in lines)
+        is_whole = said.went_through and not any(self.kit.unread(it, ()) for it in lines)
         if not is_whole:
             self.broken |= {functions.get(it) for it in at_fault(lines, texts, functions)} - {None}
         found, note = [], ""
@@ -501,9 +513,13 @@ class Trial:
             if line_of:
                 name = line_of[1].removeprefix(f"{self.crate.name}::")
                 one = next((it for it in [*functions, *self.functions] if it.is_named(name)), None)
-                why = note or (self.error_of(one, lines) if one else "")
-                is_asked = one and one.proof() in silent
-                found.append((one, self.said_itself(one, line_of[2], why) if is_asked else line_of[2], why or line_of[2]))
+                why, words = note or (self.error_of(one, lines) if one else ""), line_of[2]
+                if one and one.proof() in silent:
+                    words = self.said_itself(one, words, why)
+                elif one in functions and why and self.is_by_hand(one, texts):
+                    # what it calls may be refused too, but an error in a proof by hand is of the function itself
+                    words = "not proved"
+                found.append((one, words, why or line_of[2]))
             note = "" if line_of else note or (line if NOTE.match(line) else "")
         return is_whole, found
 
@@ -527,7 +543,11 @@ class Trial:
     def can_be_silent(self, function, texts):
         """Whether the function's proof, if it has files, is of answers, so that one that is no goal's can be added."""
         has_another_place = not (self.is_copy_of_law(function) or function.cycle) and self.calls_itself(function)
-        return not has_another_place and f"proofs/{function.proof().replace('.', '/')}/Proof.antt" not in {**self.proofs, **texts}
+        return not (has_another_place or self.is_by_hand(function, texts))
+
+    def is_by_hand(self, function, texts):
+        """Whether the function's proof is by hand, and not of answers."""
+        return f"proofs/{function.proof().replace('.', '/')}/{BY_HAND}" in {**self.proofs, **texts}
 
     def is_copy_of_law(self, function):
         return function.file not in self.sources
@@ -537,12 +557,12 @@ class Trial:
         file = f"proofs/{function.proof().replace('.', '/')}/Answers.antt"
         return {file: (texts.get(file) or self.proofs.get(file, "")) + NO_OFFERS}
 
-    def try_alone(self, edits, kept):
-        """What the kit says of each edit, tried as its own are: over the turns' work where the crate itself is proved so."""
-        is_sound = len(edits) > 1 and not self.kit.checked(self.crate, {}, ONE_JOB, kept).returncode
+    def try_alone(self, edits):
+        """What the kit says of each edit, tried by itself as its own are."""
         found = {}
         for edit in edits:
-            said, text = self.kit.must_fail(self.crate, edit.path, ONE_JOB, kept if is_sound else None)
+            call = functools.partial(self.kit.must_fail, self.crate, edit.path, ONE_JOB)
+            said, text = (yield [call])[call]
             found[edit] = is_refusal(self.kit, said), f"{text.replace('must-fail ', 'wrong ', 1)} {ALONE}"
         return found
 
@@ -555,27 +575,24 @@ class Trial:
         return found
 
 
-def checked(kit, crate, texts, flags, kept):
-    """Checks a copy of the crate with these texts, as the kit does, over what kept holds where it is given, and notes the
-    processor time. A text's folder may be new, and a file with None for a text goes."""
-    with tempfile.TemporaryDirectory(prefix="wrong-crate-") as room, tempfile.TemporaryFile("w+", errors="replace") as said:
+def checked(kit, crate, texts, flags, kept=None):
+    """Checks a copy of the crate by itself with these texts, as the kit does, and notes the processor time."""
+    with tempfile.TemporaryDirectory(prefix="wrong-crate-") as room:
         for part in kit.rtlib.PARTS:
             if os.path.isdir(f"{crate.folder}/{part}"):
                 shutil.copytree(f"{crate.folder}/{part}", f"{room}/{part}")
-        for path, text in texts.items():
-            os.makedirs(os.path.dirname(f"{room}/{path}"), exist_ok=True)
-            if text is None:
-                os.remove(f"{room}/{path}")
-                continue
-            with open(f"{room}/{path}", "w", encoding="utf-8") as it:
-                it.write(text)
-        words = [kit.rtlib.RATTLE, "check", *crate.words(flags, keeps=False), *(["--incremental", kept] if kept else [])]
-        run = subprocess.Popen([*kit.rtlib.guarded(), *words], cwd=room, stdin=subprocess.DEVNULL, stdout=said, stderr=said)
-        _, status, used = os.wait4(run.pid, 0)
-        run.returncode = os.waitstatus_to_exitcode(status)
-        TIMES[crate.name].append(used.ru_utime + used.ru_stime)
-        said.seek(0)
-        return subprocess.CompletedProcess(words, run.returncode, said.read())
+        write_texts(room, texts)
+        ran = run(kit, crate.words(flags, keeps=False), room)
+    print(f"a check of {crate.name} by itself: {ran.seconds:.0f} processor seconds", flush=True)
+    return ran
+
+
+def answers_by_itself(kit, question):
+    """The answer of a check of the crate by itself, where it cannot be checked beside others."""
+    only = [word for path in question.paths for word in ("--only", "::".join([question.crate.name, *path]))]
+    ran = checked(kit, question.crate, question.texts, [*question.flags, *only])
+    lines = ran.stdout.rstrip("\n").split("\n")
+    return {question: Answer(lines, went_through(ran.returncode, lines))}
 
 
 def texts_below(folder, part, ending):
@@ -586,6 +603,13 @@ def texts_below(folder, part, ending):
             with open(f"{at}/{name}", encoding="utf-8") as it:
                 found[os.path.relpath(f"{at}/{name}", folder)] = it.read()
     return found
+
+
+def own_text(function, sources):
+    """The text of the function, without its name at its head."""
+    lines = sources[function.file].split("\n")
+    lines[function.head] = re.sub(rf"\bfn {function.name}\b", "fn", lines[function.head], count=1)
+    return "\n".join(lines[function.first : function.last + 1])
 
 
 def without_body(lines, function):
@@ -667,18 +691,70 @@ def run_wrong(rt, names=(), anew=False, with_inner=False, is_built=False):
     if not is_built and not build_below(kit, crates):
         print("the crates below are not proved, so no edit is tried")
         return 0, 1
-    crates.sort(key=lambda it: -it.count(rb"\n"))
-    lanes = min(MOST_AT_ONCE, kit.processors(), *(int(0.85 * kit.free() / kit.need(it)) for it in crates[:1]))
-    passed = failed = 0
+    lanes = min(MOST_AT_ONCE, kit.processors(), int(0.85 * kit.free() / MEMORY_OF_ONE))
+    runs = Runs([Trial(kit, it, results, with_inner, is_built).run() for it in crates])
     with ThreadPoolExecutor(max(lanes, 1)) as pool, folder_of_run():
-        runs = {pool.submit(Trial(kit, it, results, with_inner, is_built).run): it.name for it in crates}
-        for it in as_completed(runs):
-            for is_refused, text in it.result():
+        while asked := runs.asked():
+            for done in as_completed([pool.submit(it) for it in checks_for(kit, asked)]):
+                runs.take(done.result())
+    return runs.passed, runs.failed
+
+
+class Runs:
+    """The trials that wait for answers, each with what it asks and the answers so far, and how many edits passed and failed."""
+
+    def __init__(self, trials):
+        self.waiting, self.passed, self.failed = {}, 0, 0
+        for it in trials:
+            self.go_on(it)
+
+    def asked(self):
+        return [it for asked, _ in self.waiting.values() for it in asked]
+
+    def take(self, answers):
+        """Takes these answers, and gives each trial that has all of its own these."""
+        for trial, (asked, known) in list(self.waiting.items()):
+            known.update((it, answers[it]) for it in asked if it in answers)
+            if len(known) == len(asked):
+                self.go_on(trial, known)
+
+    def go_on(self, trial, answers=None):
+        """Gives the trial its answers, and takes its next questions, or prints what it tells at its end."""
+        self.waiting.pop(trial, None)
+        try:
+            self.waiting[trial] = trial.send(answers), {}
+        except StopIteration as end:
+            for is_refused, text in end.value:
                 print(text, flush=True)
-                passed, failed = passed + is_refused, failed + (not is_refused)
-            if times := TIMES[runs[it]]:
-                print(f"{runs[it]}: {sum(times):.0f} processor seconds in {len(times)} check{'s' * (len(times) > 1)}", flush=True)
-    return passed, failed
+                self.passed, self.failed = self.passed + is_refused, self.failed + (not is_refused)
+
+
+def at_once(ways):
+    """What each of these ways returns, in a list, where what they ask is asked at once, as far as they ask."""
+    answers, returned = dict.fromkeys(ways), {}
+    while answers:
+        asked = {}
+        for way, given in answers.items():
+            try:
+                asked[way] = way.send(given)
+            except StopIteration as end:
+                returned[way] = end.value
+        given = (yield [it for each in asked.values() for it in each]) if asked else {}
+        answers = dict.fromkeys(asked, given)
+    return [returned[it] for it in ways]
+
+
+def checks_for(kit, asked):
+    """Calls that answer all that is asked: a check for many questions, one for each that goes alone, and what is a call."""
+    questions = [it for it in asked if isinstance(it, Question)]
+    groups = in_groups(questions, MOST_IN_ONE)
+    beside = [functools.partial(answered, kit, it, it[0].flags) for it in groups if it[0].goes_beside_others()]
+    by_itself = [functools.partial(answers_by_itself, kit, it[0]) for it in groups if not it[0].goes_beside_others()]
+    return [*by_itself, *beside, *(functools.partial(answer_of_call, it) for it in asked if it not in questions)]
+
+
+def answer_of_call(call):
+    return {call: call()}
 
 
 @contextmanager
