@@ -45,13 +45,17 @@ pub record IsSmallNext (r : Reading) (piece : List ℕ) : Type 0 where
   pub some : 0 < length piece
   pub small : slice_index piece 0 < 24
 
--- The item for which the tape stands ended with byte `used` of the piece, with whose first byte it began, and the next one begins
--- after it.
+-- The item for which the tape stands is the next one: it begins with the piece, and ends with its byte `used`.
+pub record IsTapeNext (r : Reading) (piece : List ℕ) (used : ℕ) (tape : List Entry) : Type 0 where
+  pub going : r.stopped ≡ None
+  pub between : r.fed ≡ []
+  pub whole : IsWholeTape r.limits.depth piece tape used
+  pub item : IsItem r.limits r.offset whole.value (take used piece)
+
+-- That item was taken, and the next one begins after it.
 pub record IsTapeTaken (old : Reading) (piece : List ℕ) (used : ℕ) (tape : List Entry) (new : Reading) : Type 0 where
-  pub going : old.stopped ≡ None
-  pub between : old.fed ≡ []
-  pub whole : IsWholeTape old.limits.depth piece tape used
-  pub taken : IsTaken old piece used whole.value new
+  pub next : IsTapeNext old piece used tape
+  pub taken : IsTaken old piece used next.whole.value new
 
 -- How far a piece is used before a fault of this kind at this place is reported: up to the fault's byte, or, where the item
 -- is whole, up to its end.

@@ -1,7 +1,8 @@
 //! Reads items from pieces.
-ghost use Rattle.std.specs.Prelude.{◌≡◌, ◌↔◌, ◌<◌, ◌≤◌, ◌^◌, [], None, IfNone, IfOk, IfSome, IsSome, length};
-ghost use Rattle.cbor_read.specs.Answers.{IsAgain, IsAnswer, IsEnd, IsSmallNext, IsSmallTaken, IsTapeTaken};
+ghost use Rattle.std.specs.Prelude.{◌≡◌, ◌↔◌, ◌<◌, ◌≤◌, ◌^◌, ℕ, List, [], None, IfNone, IfOk, IfSome, IsSome, length};
+ghost use Rattle.cbor_read.specs.Answers.{IsAgain, IsAnswer, IsEnd, IsSmallNext, IsSmallTaken, IsTapeNext, IsTapeTaken};
 ghost use Rattle.cbor_read.specs.Reading.{open_reading};
+ghost use Rattle.cbor_tape.specs.declared.entry.Entry.{Entry};
 ghost use Rattle.cbor_read.specs.Steps.{IsKept};
 ghost use Rattle.cbor_read.specs.Turns.{IsTurn, IsWholeTurn};
 
@@ -153,16 +154,14 @@ impl ItemReader {
         Some(piece[0])
     }
 
-    /// Takes the item at the front of the piece where it is the next one and whole there, and answers where it ends. No item is
-    /// built: from the front of `tape` on its places are written, as by [`whole_tape`], which says how long `tape` has to be for
-    /// any map. `None` says nothing, and only what is on the tape is changed: `feed` tells what the piece leads to. Takes no
-    /// memory.
+    /// Where the item at the front of the piece ends, if it is the next one and whole there. No item is built: from the front of
+    /// `tape` on its places are written, as by [`whole_tape`], which says how long `tape` has to be for any map. `None` says
+    /// nothing, and only what is on the tape is changed. Takes no memory.
     #[inline]
-    pub fn take_taped(&mut self, piece: &[u8], tape: &mut [Entry]) -> Option<usize>
+    pub fn taped_end(&self, piece: &[u8], tape: &mut [Entry]) -> Option<usize>
         requires room { length piece.now ≤ length tape.old }
         requires short { length piece.now < 2 ^ 32 }
-        ensures taken { IfSome result (λ used. IsTapeTaken self.old piece.now used tape.new self.new) }
-        ensures kept { IfNone result (self.new ≡ self.old) }
+        ensures { IfSome result (λ used. IsTapeNext self.now piece.now used tape.new) }
     {
         if self.stopped.is_some() || self.count != 0 {
             return None;
@@ -172,8 +171,16 @@ impl ItemReader {
         if length > room {
             return None;
         }
-        self.offset += length as u64;
         Some(length)
+    }
+
+    /// Takes the item that ends there, of which [`taped_end`](ItemReader::taped_end) has just told so. Takes no memory.
+    #[inline]
+    pub fn take_taped(&mut self, end: usize)
+        requires { (piece : List ℕ) × (tape : List Entry) × IsTapeNext self.old piece end tape }
+        ensures { (piece : List ℕ) (tape : List Entry) → IsTapeNext self.old piece end tape → IsTapeTaken self.old piece end tape self.new }
+    {
+        self.offset += end as u64;
     }
 
     /// Whether the stream may end here: between two items of a reader that has not stopped. Takes no memory.

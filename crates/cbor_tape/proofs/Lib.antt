@@ -11,3 +11,4 @@ mod Rising
 mod Listing
 mod Pairs
 mod Walks
+pub mod OfPlaces

@@ -3,3 +3,4 @@ pub mod Parts
 pub mod Keys
 pub mod Contents
 pub mod Parted
+pub mod Places

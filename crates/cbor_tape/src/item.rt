@@ -46,6 +46,7 @@ struct Extent {
 /// No memory is asked for. Calls are as deep as the item. A byte is looked at once, and a key's also where it is compared: with
 /// the highest key before it, with eight others at most, and where that does not tell, once the map is read, as a sort does. Of a
 /// map in a key, or one that is a key, no pair is looked at when keys are compared.
+#[inline(always)]
 pub fn whole_tape(bytes: &[u8], depth: u32, tape: &mut [Entry]) -> Option<usize>
     requires room { length bytes.now ≤ length tape.old }
     requires short { length bytes.now < 2 ^ 32 }

@@ -8,10 +8,12 @@ mod keys;
 mod leaf;
 mod order;
 mod parts;
+mod places;
 mod strings;
 
 pub use crate::entry::Entry;
 pub use crate::item::whole_tape;
+pub use crate::places::{Seen, Taped};
 
 #[cfg(test)]
 mod tests;

@@ -1,6 +1,6 @@
 //! What the pairs of a map came to in an alternative, and what follows for one that begins with the same entries.
 
-ghost use Rattle.std.specs.Prelude.{◌≡◌, ◌<◌, ◌+◌, None, Some, IfSome, IsTrue, MatchOption};
+ghost use Rattle.std.specs.Prelude.{◌≡◌, ◌<◌, ◌+◌, None, Some, IfSome, MatchOption};
 ghost use Rattle.item_nodes.specs.View.{pairs_view};
 ghost use Rattle.cddl_meaning.specs.Judges as J;
 ghost use Rattle.cddl_meaning.specs.Moves as M;
@@ -8,14 +8,13 @@ ghost use Rattle.cddl_meaning.specs.Moves.{answer_reply, tally_says};
 ghost use Rattle.cddl_match.specs.Tellings.{BeginAlike, IsTallied, told_with};
 ghost use Rattle.match_moves.specs.Views.{tally_view};
 ghost use Rattle.cddl_match.specs.Within.{Replied, Says, said_view};
-ghost use Rattle.table_nodes.specs.Fronts as Fronts;
 ghost use Rattle.table_nodes.specs.Language.{language_of};
 ghost use Rattle.table_nodes.specs.Nodes.{entries_view};
 
 use crate::calls::Said;
 use crate::means::Means;
 use cbor_item::Item;
-use match_moves::{Fate, Tally, no_tally, shown_by_first, shown_by_tally};
+use match_moves::{Fate, Tally, begin_alike, no_tally, shown_by_first, shown_by_tally};
 use std::alloc::Global;
 use table_nodes::{MapEntry, Table};
 
@@ -63,32 +62,6 @@ pub(crate) fn told_with(told: Option<usize>, fate: Fate, entries: usize) -> Opti
         }
         Fate::Stray { .. } => None,
     }
-}
-
-// Whether two entries are the same. Most that differ have other keys.
-#[inline(always)]
-fn are_same(some: &MapEntry, other: &MapEntry) -> bool
-    ensures { IsTrue result → some.now ≡ other.now }
-{
-    some.key_type == other.key_type
-        && some.value_type == other.value_type
-        && some.least == other.least
-        && some.most == other.most
-        && some.cuts == other.cuts
-}
-
-// Whether the first entries, so many, are the same.
-fn begin_alike(some: &[MapEntry], others: &[MapEntry], count: usize) -> bool
-    ensures { IsTrue result → Fronts.BeginAlike count some.now others.now }
-{
-    let mut same = 0;
-    while same < count {
-        match (some.get(same), others.get(same)) {
-            (Some(entry), Some(other)) if are_same(entry, other) => same += 1,
-            _ => return false,
-        }
-    }
-    true
 }
 
 // How many of the steps an alternative leaves whose first entries tell what becomes of each pair, if there are so many: it

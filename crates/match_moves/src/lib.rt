@@ -2,6 +2,7 @@
 //! one small function for each form. Whoever asks keeps what waits.
 #![tactic(auto)]
 
+mod alike;
 mod contents;
 mod controls;
 mod counts;
@@ -10,6 +11,7 @@ mod places;
 mod questions;
 mod sorting;
 
+pub use crate::alike::begin_alike;
 pub use crate::contents::{bytes_of, items_of, pairs_of, simple_of};
 pub use crate::controls::weighed_reply;
 pub use crate::counts::Counts;

@@ -2,18 +2,24 @@
 
 ghost use Rattle.std.specs.Prelude.{◌≡◌, ◌/◌, ◌<◌, ◌≤◌, ◌↔◌, ℕ, [], length, take, IfSome, IsTrue};
 ghost use Rattle.cbor_data.specs.Value.{uint, Value};
+ghost use Rattle.cbor_tape.specs.Tape.{IsWholeTape};
 ghost use Rattle.cddl_meaning.specs.Forms.{major_of};
 ghost use Rattle.seq_run.specs.Smalls.{AreSmallsTaken, IsLongestFront, IsMarked};
 
 use cbor_item::{Item, Sound};
 use cbor_read::ItemReader;
+use cbor_tape::Entry;
 use cddl_match::{Verdict, verdict};
 use std::alloc::{AllocError, Global};
 use std::marker::Model;
 use table_nodes::{Table, Told};
+use tape_match::accepts;
 
 // How many unsigned integers are one byte.
 const NUMBERS: usize = 24;
+
+// How many items are passed over at most before the tape of one is asked again.
+const LONGEST_PAUSE: u8 = 63;
 
 // A specification with the steps that an item may take. It asks about a number below 24 until that is accepted once, since
 // the specification accepts it again then.
@@ -22,6 +28,10 @@ pub(crate) struct Examiner<'t> {
     table: &'t Table,
     steps: u64,
     accepted: [bool; NUMBERS],
+    // So many items are passed over yet before the tape of one is asked again, and so many after the next that is not told by
+    // its tape.
+    passed: u8,
+    pause: u8,
 }
 
 impl<'t> Model for Examiner<'t> {
@@ -49,6 +59,8 @@ impl<'t> Examiner<'t> {
             table,
             steps,
             accepted: [false; NUMBERS],
+            passed: 0,
+            pause: 0,
         }
     }
 
@@ -62,14 +74,63 @@ impl<'t> Examiner<'t> {
         verdict(alloc, self.table, item, self.steps)
     }
 
+    // Whether to ask about the next item by its tape, where it begins with this byte. Where several in a row were not told so,
+    // fewer are asked about, but each whose first byte tells it.
+    #[inline]
+    pub(crate) fn may_tell(&mut self, byte: u8) -> bool
+        ensures { self.new ≡ self.old }
+    {
+        if self.passed == 0 || self.accepts_kind(byte) {
+            return true;
+        }
+        self.passed -= 1;
+        false
+    }
+
     // Whether the table tells that the specification accepts each item whose initial byte is this one, whatever is in it.
     #[inline]
-    pub(crate) fn accepts_kind(&self, byte: u8) -> bool
+    fn accepts_kind(&self, byte: u8) -> bool
         ensures { IsTrue result → (x : Value) → major_of x ≡ byte / 32 → Accepts self.now x [] }
     {
         match self.table.told(self.table.root(), byte / 32) {
             Told::Yes(judgements) => u64::from(judgements) <= self.steps,
             Told::No(_) | Told::Nothing => false,
+        }
+    }
+
+    // Whether the specification accepts the item that the tape stands for, where its first byte or the tape tells so. What its
+    // byte strings hold has its tape on `spare`.
+    #[inline]
+    pub(crate) fn accepts_taped(
+        &mut self,
+        bytes: &[u8],
+        tape: &[Entry],
+        spare: &mut [Entry],
+    ) -> bool
+        requires { 0 < length bytes.now }
+        ensures kept { self.new ≡ self.old }
+        ensures accepted { IsTrue result → (depth n : ℕ) (whole : IsWholeTape depth bytes.now tape.now n) → Accepts self.old whole.value [] }
+    {
+        if self.accepts_kind(bytes[0]) {
+            return true;
+        }
+        let is_told = accepts(self.table, bytes, tape, spare, self.steps);
+        self.note(is_told);
+        is_told
+    }
+
+    // Notes whether an item was told by its tape.
+    #[inline]
+    fn note(&mut self, is_told: bool)
+        ensures { self.new ≡ self.old }
+    {
+        if is_told {
+            self.pause = 0;
+            return;
+        }
+        self.passed = self.pause;
+        if self.pause < LONGEST_PAUSE {
+            self.pause = 2 * self.pause + 1;
         }
     }
 

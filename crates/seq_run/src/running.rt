@@ -54,8 +54,9 @@ pub enum RunFault {
 /// it takes memory for the output of one piece: that of one item, and of items in 4,096 bytes more, with room for twelve bytes for
 /// each byte of one of these. In [`Mode::Deterministic`] it takes what [`cbor_item::write_det`] does, too, to put one item in order.
 ///
-/// In [`Mode::Report`] and [`Mode::EndLine`] no item is built that is whole in a piece and is accepted for its major type alone:
-/// it is checked, and its line is written, from its bytes, by a tape ([`cbor_tape::whole_tape`]) in 48 KiB that are asked for once.
+/// In [`Mode::Report`] and [`Mode::EndLine`] no item is built that is whole in a piece and of which a tape tells that it is
+/// accepted ([`tape_match::accepts`]): it is checked, and its line is written, from its bytes by that tape
+/// ([`cbor_tape::whole_tape`]). Tapes take 96 KiB, which are asked for once.
 ///
 /// # Errors
 ///
@@ -113,6 +114,7 @@ pub fn run_watched<R: Read, W: Write, P: Watch>(
     let mut session = Session::new(alloc, table, limits, steps);
     let mut buffer = [0; PIECE];
     let mut tape = tape_for(alloc, mode);
+    let mut spare = tape_for(alloc, mode);
     let mut bytes = Vec::new(alloc);
     let mut reported = 0;
     let mut written = 0;
@@ -123,7 +125,15 @@ pub fn run_watched<R: Read, W: Write, P: Watch>(
         };
         bytes.clear();
         let piece = &buffer[..count];
-        let Ok(end) = take_piece(alloc, mode, &mut tape, &mut session, piece, &mut bytes) else {
+        let Ok(end) = take_piece(
+            alloc,
+            mode,
+            &mut tape,
+            &mut spare,
+            &mut session,
+            piece,
+            &mut bytes,
+        ) else {
             return Err(RunFault::Memory(reported));
         };
         if let Err(fault) = write_bytes(bytes.as_slice(), output) {
@@ -159,6 +169,7 @@ fn take_piece(
     alloc: Global,
     mode: Mode,
     tape: &mut [Entry],
+    spare: &mut [Entry],
     session: &mut Session<'_>,
     piece: &[u8],
     bytes: &mut Vec<u8>,
@@ -167,7 +178,7 @@ fn take_piece(
     requires empty { bytes.old.items ≡ [] }
     ensures { IfOk result (λ end. IsPieceDone mode session.old piece.now end session.new bytes.new.items) }
 {
-    match take_items(alloc, mode, tape, session, piece, bytes)? {
+    match take_items(alloc, mode, tape, spare, session, piece, bytes)? {
         State::Open => Ok(None),
         State::Ended(end) => {
             shows_inside();
@@ -182,6 +193,7 @@ fn take_items(
     alloc: Global,
     mode: Mode,
     tape: &mut [Entry],
+    spare: &mut [Entry],
     session: &mut Session<'_>,
     piece: &[u8],
     bytes: &mut Vec<u8>,
@@ -194,7 +206,7 @@ fn take_items(
         let end = session.finish()?;
         return Ok(State::Ended(end));
     }
-    feed_items(alloc, mode, tape, session, piece, bytes)
+    feed_items(alloc, mode, tape, spare, session, piece, bytes)
 }
 
 // Feeds a piece, and appends the output of the items that it completes.
@@ -202,6 +214,7 @@ fn feed_items(
     alloc: Global,
     mode: Mode,
     tape: &mut [Entry],
+    spare: &mut [Entry],
     session: &mut Session<'_>,
     piece: &[u8],
     bytes: &mut Vec<u8>,
@@ -220,7 +233,7 @@ fn feed_items(
             rest = &rest[count..];
             continue;
         }
-        if let Some(end) = take_taped(mode, tape, session, rest) {
+        if let Some(end) = take_taped(mode, tape, spare, session, rest) {
             push_taped(mode, &mut head, bytes, before + 1, offset, rest, end, tape)?;
             rest = &rest[end..];
             continue;
@@ -241,6 +254,7 @@ fn feed_items(
 fn take_taped(
     mode: Mode,
     tape: &mut [Entry],
+    spare: &mut [Entry],
     session: &mut Session<'_>,
     rest: &[u8],
 ) -> Option<usize>
@@ -251,5 +265,5 @@ fn take_taped(
     if !writes_lines(mode) || rest.len() > PIECE || rest.len() > tape.len() {
         return None;
     }
-    session.take_taped(rest, tape)
+    session.take_taped(rest, tape, spare)
 }

@@ -344,19 +344,31 @@ impl<'t> Session<'t> {
         count
     }
 
-    // Takes the item at the front of the piece where it is the next one, is whole there and is accepted for its first byte alone,
+    // Takes the item at the front of the piece where it is the next one, is whole there and its tape tells that it is accepted,
     // and answers where it ends. Then its tape is at the front of `tape`. None says nothing, and only the tape is changed.
-    pub(crate) fn take_taped(&mut self, piece: &[u8], tape: &mut [Entry]) -> Option<usize>
+    pub(crate) fn take_taped(
+        &mut self,
+        piece: &[u8],
+        tape: &mut [Entry],
+        spare: &mut [Entry],
+    ) -> Option<usize>
         requires going { self.old.stopped ≡ None }
         requires room { length piece.now ≤ length tape.old }
         requires short { length piece.now < 2 ^ 32 }
         ensures taken { IfSome result (λ used. IsTapeFed self.old piece.now used tape.new self.new) }
         ensures kept { IfNone result (self.new ≡ self.old) }
     {
-        if piece.is_empty() || !self.examiner.accepts_kind(piece[0]) {
+        if piece.is_empty() {
             return None;
         }
-        let end = self.reader.take_taped(piece, tape)?;
+        if !self.examiner.may_tell(piece[0]) {
+            return None;
+        }
+        let end = self.reader.taped_end(piece, tape)?;
+        if !self.examiner.accepts_taped(piece, tape, spare) {
+            return None;
+        }
+        self.reader.take_taped(end);
         let bytes = &piece[..end];
         self.taken.push(&FoundItem::Spelled {
             offset: self.count.offset,

@@ -5,7 +5,8 @@ use Rattle.cbor_data.specs.Notation.{notation}
 use Rattle.cbor_data.specs.Value.{Value, array, pairs, tag, Values, Pairs, places}
 use Rattle.cbor_tape.specs.declared.entry.Entry.{Entry}
 use Rattle.tape_notation.specs.Heads.{HasForm, IsFormAt}
-use Rattle.tape_notation.specs.OnTape.{AreOn, AreMembersOn, ArePairsOn, HasItem, HasMembers, HasPairs, HasTag, IsTagOn}
+use Rattle.cbor_tape.specs.Places.{AreOn}
+use Rattle.tape_notation.specs.OnTape.{AreMembersOn, ArePairsOn, HasItem, HasMembers, HasPairs, HasTag, IsTagOn}
 use Rattle.tape_notation.specs.Put.{IsPut}
 use Rattle.tape_notation.proofs.OnTape.{IsHere, item_here, members_there, pairs_there, tag_there}
 use Rattle.tape_notation.proofs.Puts.{room_for, same_put}

@@ -6,9 +6,11 @@ use Rattle.cbor_data.specs.Value.{Value, Pairs, no_pairs, pair, places, pairs_pl
 use Rattle.cbor_tape.specs.declared.entry.Entry.{Entry}
 use Rattle.cbor_tape.proofs.Lemmas.{places_counted}
 use Rattle.item_nodes.specs.Comma.{comma}
-use Rattle.tape_notation.specs.OnTape.{AreOn, ArePairsOn}
+use Rattle.cbor_tape.specs.Places.{AreOn}
+use Rattle.tape_notation.specs.OnTape.{ArePairsOn}
 use Rattle.tape_notation.specs.Put.{IsPut}
-use Rattle.tape_notation.proofs.OnTape.{IsHere, item_here, these_on, those_on}
+use Rattle.cbor_tape.proofs.OfPlaces.Lemmas.{these_on, those_on}
+use Rattle.tape_notation.proofs.OnTape.{IsHere, item_here}
 use Rattle.tape_notation.proofs.Puts.{more_put}
 
 -- the pairs that are left, where so many places are before them

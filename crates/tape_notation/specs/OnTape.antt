@@ -2,20 +2,14 @@
 use Rattle.std.specs.Prelude.{◌≡◌, ℕ, ◌+◌, ◌<◌, ◌≤◌, List, ◌++◌, drop, length, slice_index_or}
 use Rattle.cbor_data.specs.Notation.{notation}
 use Rattle.cbor_data.specs.Value.{Value, Values, Pairs, array, pairs, tag, places, values_places, pairs_places, values_place_count, pairs_place_count}
-use Rattle.cbor_tape.specs.Tape.{AreEntriesOf, IsWholeTape}
+use Rattle.cbor_tape.specs.Places.{AreOn}
+use Rattle.cbor_tape.specs.Tape.{IsWholeTape}
 use Rattle.cbor_tape.specs.declared.entry.Entry.{Entry}
 use Rattle.tape_notation.specs.Heads.{IsHeadAt}
 
 -- the tape t stands for an item that the first n bytes of b spell
 abbrev pub IsTaped : List ℕ → List Entry → ℕ → Type 0
 IsTaped b t n = (depth : ℕ) × IsWholeTape depth b t n
-
--- from this place on the tape has the entries of these items
-pub record AreOn (b : List ℕ) (t : List Entry) (place : ℕ) (xs : List Value) : Type 0 where
-  pub entries : List Entry
-  pub after : List Entry
-  pub stand : AreEntriesOf b place xs entries
-  pub is : drop place t ≡ entries ++ after
 
 -- an item is on the tape from this place on, and its notation has room in so many bytes from `at` on
 pub record HasItem (b : List ℕ) (t : List Entry) (place at len : ℕ) : Type 0 where

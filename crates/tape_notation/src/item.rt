@@ -3,7 +3,8 @@ ghost use Rattle.std.specs.Prelude.{◌≡◌, ℕ, ◌+◌, ◌*◌, ◌≤◌,
 ghost use Rattle.cbor_data.specs.Notation.{notation};
 ghost use Rattle.cbor_data.specs.Value.{array, pairs as pairs_value, places, tag, Pairs, Value, Values};
 ghost use Rattle.cbor_tape.specs.Tape.{IsWholeTape};
-ghost use Rattle.tape_notation.specs.OnTape.{AreMembersOn, AreOn, ArePairsOn, HasItem, HasMembers, HasPairs, HasTag, IsNestedAt, IsTaped, IsTagOn};
+ghost use Rattle.cbor_tape.specs.Places.{AreOn};
+ghost use Rattle.tape_notation.specs.OnTape.{AreMembersOn, ArePairsOn, HasItem, HasMembers, HasPairs, HasTag, IsNestedAt, IsTaped, IsTagOn};
 ghost use Rattle.tape_notation.specs.Put.{IsPut};
 
 use crate::head::head_at;

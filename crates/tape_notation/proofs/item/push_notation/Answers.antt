@@ -1,7 +1,7 @@
 use Rattle.std.proofs.Common.{◌≡◌, ◌++◌, length, take, ap, ◌∙◌, arith}
 use Rattle.cbor_data.specs.Notation.{notation}
 use Rattle.tape_notation.proofs.Longest.{whole_short}
-use Rattle.tape_notation.proofs.OnTape.{whole_on}
+use Rattle.cbor_tape.proofs.OfPlaces.Lemmas.{whole_on}
 use Rattle.tape_notation.proofs.Puts.{whole_slice}
 use Rattle.tape_notation.proofs.item.push_notation.Goals as goal
 

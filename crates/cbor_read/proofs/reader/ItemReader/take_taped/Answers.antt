@@ -1,23 +1,21 @@
-use Rattle.std.proofs.Common.{◌+◌, arith}
-use Rattle.cbor_read.proofs.Small.{none_is}
-use Rattle.cbor_read.proofs.Taped.{fits, tape_taken}
-use Rattle.cbor_read.proofs.Turned.{kept_moved, none_fed}
+use Rattle.std.proofs.Common.{◌≡◌, ◌+◌, ◌<◌, ◌^◌, [], length, ap, arith, ◌∙◌}
+use Rattle.cbor_read.specs.Reading.{Reading}
+use Rattle.cbor_read.proofs.Taped.{tape_fits, tape_taken}
+use Rattle.cbor_read.proofs.Turned.{kept_moved}
 use Rattle.cbor_read.proofs.reader.ItemReader.take_taped.Goals as goal
 
 pub overflow_add-self : goal.overflow_add-self
-overflow_add-self c =
-    let r = c.self.inside in
-    omega (arith, fits r.limits r.offset c.args.piece.now c.whole_tape.new.tape c.in_ok-length.length c.room_of-room.result c.depth.result c.depth.ensures.value c.in_ok-length.ensures (omega arith) c.room_of-room.ensures (omega (arith, c.if-length-room.false)))
+overflow_add-self c = omega (arith, tape_fits c.args.self.now c.requires.0 c.args.end c.requires.1 c.requires.2, ap (λ (q : Reading). q.offset) c.self.view_is)
 
 pub invariant_of-self : goal.invariant_of-self
 invariant_of-self c =
     let r = c.self.inside in
-    let fit = fits r.limits r.offset c.args.piece.now c.whole_tape.new.tape c.in_ok-length.length c.room_of-room.result c.depth.result c.depth.ensures.value c.in_ok-length.ensures (omega arith) c.room_of-room.ensures (omega (arith, c.if-length-room.false)) in
-    λ live. kept_moved r.limits r.offset (r.offset + c.in_ok-length.length) r.fed r.count r.work fit (c.self.invariant live) c.if-self-ne0.false
+    let fit : r.offset + c.args.end < 2 ^ 64 = omega (arith, tape_fits c.args.self.now c.requires.0 c.args.end c.requires.1 c.requires.2, ap (λ (q : Reading). q.offset) c.self.view_is) in
+    let nothing : r.fed ≡ [] = ap (λ (q : Reading). q.fed) c.self.view_is ∙ c.requires.2.between in
+    λ live. let k = c.self.invariant live in
+    kept_moved r.limits r.offset (r.offset + c.args.end) r.fed r.count r.work fit k (k.same ∙ ap length nothing)
 
-pub returns-clause-taken : goal.returns-clause-taken
-returns-clause-taken c =
+pub returns : goal.returns
+returns c =
     let r = c.self.inside in
-    let live = none_is r.stopped c.is_some.result c.is_some.ensures c.if-is_some.false in
-    tape_taken r.limits r.offset c.args.piece.now c.whole_tape.new.tape c.in_ok-length.length c.room_of-room.result c.depth.result c.depth.ensures.value c.in_ok-length.ensures (omega arith) c.room_of-room.ensures (omega (arith, c.if-length-room.false))
-    r.fed r.stopped c.args.self.now c.self.view_is live (none_fed r.limits r.offset r.fed r.count r.work (c.self.invariant live) c.if-self-ne0.false)
+    λ piece tape. tape_taken r.limits r.offset r.fed r.stopped c.args.self.now c.self.view_is piece c.args.end tape

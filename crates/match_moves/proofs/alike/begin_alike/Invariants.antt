@@ -1,6 +1,6 @@
 use Rattle.std.proofs.Common.{◌-◌, ◌≤◌}
 use Rattle.table_nodes.specs.Fronts.{BeginAlike}
-use Rattle.cddl_match.proofs.tallied.begin_alike.Given as goal
+use Rattle.match_moves.proofs.alike.begin_alike.Given as goal
 
 abbrev pub invariant-loop-same : goal.invariant-loop-same
 invariant-loop-same l = record { within : l.same ≤ l.count; alike : BeginAlike l.same l.some l.others }

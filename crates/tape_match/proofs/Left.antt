@@ -1,0 +1,241 @@
+-- What is told of items on a tape.
+use Rattle.std.proofs.Common.{◌≡◌, ◌≢◌, Bool, true, false, ◌||◌, Option, Some, None, IfSome, not, ℕ, zero, suc, get_or, set, replicate, ◌+◌, ◌<◌, ◌≤◌, ◌⊎◌, inl, inr, ⊎_elim, List, [], ◌∷◌, length, take, slice_index_or, refl, sym, ap, ◌∙◌, subst, arith}
+use Rattle.lists.proofs.Lemmas.{before_or_not}
+use Rattle.cbor_data.specs.Embedded.{Embeds}
+use Rattle.cbor_data.specs.Forms.{Spells}
+use Rattle.cbor_data.specs.Same.{same_value}
+use Rattle.cbor_data.specs.Value.{Value, uint, nint, bytes, text, array, pairs, tag, simple, float, Pairs, pair, Values, no_values, value, place_count, values_place_count}
+use Rattle.cbor_tape.specs.Places.{IsAt, AreAt, IsFirstOf, IsSeen, major_type}
+use Rattle.cbor_tape.specs.Tape.{IsWholeTape}
+use Rattle.cbor_tape.specs.declared.entry.Entry.{Entry}
+use Rattle.cbor_tape.specs.declared.places.Seen.{Seen}
+use Rattle.cbor_tape.specs.declared.places.Taped.{Taped}
+use Rattle.cddl_meaning.specs.Forms as F
+use Rattle.cddl_meaning.specs.Forms.{Language, Test, are_bits_among, bits_asked, bits_set, is_other, list_of, major_of, passes}
+use Rattle.table_nodes.specs.declared.nodes.GroupId.{GroupId}
+use Rattle.table_nodes.specs.declared.nodes.TypeId.{TypeId}
+use Rattle.table_nodes.specs.Majors.{TellsOf}
+use Rattle.std.proofs.lemmas.List.{length-map, take-map}
+use Rattle.table_nodes.specs.Fronts.{BeginAlike}
+use Rattle.table_nodes.specs.Nodes.{entries_view, entry_view}
+use Rattle.table_nodes.specs.declared.nodes.MapEntry.{MapEntry}
+use Rattle.tape_match.specs.Says.{DoesAs, EntriesCome, FormSays, GroupFails, GroupTakes, IsMeant, PairFails, PairsCome, PairsSorted, PairTaken, SaysAs, WaySays, are_enough_from}
+use Rattle.tape_match.specs.Told.{AreSorted, IsAsked, IsEntryTold, IsFormTold, IsGroupTold, IsHeldTold, IsKnown, IsLiteralKnown, IsRest, IsSorting, more_done, more_told, one_more, one_more_done}
+use Rattle.tape_match.specs.declared.told.Tells.{Tells}
+use Rattle.tape_match.specs.declared.told.Tells.TheVariants as T
+use Rattle.tape_match.specs.declared.told.Does.{Does}
+use Rattle.tape_match.specs.declared.told.Does.TheVariants as D
+use Rattle.tape_match.specs.declared.told.Known.{Known}
+use Rattle.tape_match.specs.declared.told.Known.TheVariants as K
+use Rattle.tape_match.specs.declared.told.Met.TheVariants as H
+use Rattle.tape_match.specs.declared.told.Sorted.{Sorted}
+use Rattle.tape_match.proofs.Says.{entry_fails, entry_hands_on, entry_missing, entry_other, entry_takes, is_meant, pair_beside, pair_counted, pair_cut, pair_taken, plain_says, ref_fails, ref_says, ref_takes, tagged_says, way_falls, way_says}
+use Rattle.tape_match.proofs.Again.{sorted_again}
+
+-- the major type is the one that tables know
+pub same_major : (x : Value) → major_of x ≡ major_type x
+same_major x = by x
+  where
+    by : (x : Value) → major_of x ≡ major_type x
+    by (uint n) = refl
+    by (nint n) = refl
+    by (bytes s) = refl
+    by (text s) = refl
+    by (array xs) = refl
+    by (pairs ps) = refl
+    by (tag n x) = refl
+    by (simple n) = refl
+    by (float w n) = refl
+
+-- what a table tells by the major type is said
+pub told_says : (l : Language TypeId GroupId) (n : TypeId) (major : ℕ) (says : Bool) (cost : ℕ) (x : Value) → TellsOf l n major says cost → major_type x ≡ major → FormSays l (l.type_at n) x says cost
+told_says l n major true cost x t is = λ p. t p x (same_major x ∙ is)
+told_says l n major false cost x t is = λ p. (p, t p x (same_major x ∙ is))
+
+-- all items are left, or those after the first, or of those that are left
+pub all_left : (t : Taped) (place end : ℕ) (xs : Values) → AreAt t place end xs → IsRest t place end xs place xs
+all_left t place end xs h = record { there = h; up = omega arith; same = λ e. refl; fewer = λ h. absurd (omega arith) }
+
+pub first_taken : (t : Taped) (place end next : ℕ) (xs : Values) → (h : IsFirstOf t place end next xs) → IsRest t place end xs next h.others
+first_taken t place end next xs h =
+    let ahead = h.ahead in
+    record {
+      there = h.there;
+      up = omega arith;
+      same = λ e. absurd (omega arith);
+      fewer = λ less. omega (arith, ap (λ ys. length (list_of ys)) h.split);
+    }
+
+pub further_left : (t : Taped) (place end mid next : ℕ) (xs ys zs : Values) → IsRest t place end xs mid ys → IsRest t mid end ys next zs → IsRest t place end xs next zs
+further_left t place end mid next xs ys zs a b = record {
+  there = b.there;
+  up = omega (arith, a.up, b.up);
+  same = λ e. b.same (omega (arith, e, a.up, b.up)) ∙ a.same (omega (arith, e, a.up, b.up));
+  fewer = λ less. by (no_more mid next ys zs b) (no_more place mid xs ys a) less;
+}
+  where
+    -- there are no more of them than before
+    no_more : (p q : ℕ) (us vs : Values) → IsRest t p end us q vs → length (list_of vs) ≤ length (list_of us)
+    no_more p q us vs r = ⊎_elim (λ (less : p < q). omega (arith, r.fewer less)) (λ (e : q ≤ p). omega (arith, ap (λ ws. length (list_of ws)) (r.same (omega (arith, e, r.up))))) (before_or_not p q)
+
+    by : length (list_of zs) ≤ length (list_of ys) → length (list_of ys) ≤ length (list_of xs) → place < next → length (list_of zs) < length (list_of xs)
+    by c d less = ⊎_elim (λ (e : place < mid). omega (arith, c, a.fewer e)) (λ (e : mid ≤ place). omega (arith, b.fewer (omega (arith, e, less, a.up)), d)) (before_or_not place mid)
+
+-- a group that takes none of the items leaves as many; one that goes on leaves fewer
+pub as_many : (t : Taped) (place end next : ℕ) (xs left : Values) → IsRest t place end xs next left → next ≡ place → length (list_of left) ≡ length (list_of xs)
+as_many t place end next xs left h e = ap (λ ys. length (list_of ys)) (h.same e)
+
+pub fewer_left : (t : Taped) (place end next : ℕ) (xs left : Values) → IsRest t place end xs next left → place < next → length (list_of left) ≢ length (list_of xs)
+fewer_left t place end next xs left h less e = omega (arith, h.fewer less, e)
+
+-- a text has no bits
+pub no_bits : (s : List ℕ) (rs : List (ℕ × ℕ)) → are_bits_among rs (bits_set (text s)) ≡ false
+unfolding bits_set
+no_bits s rs = refl
+
+-- a pair passes over an entry for another literal than its key
+pub passed_by : (known : Option Value) (v : Value) (s : Seen) (r : Option Bool) → known ≡ Some v → IfSome r (λ other. (t : Taped) (x : Value) → IsSeen t x s → not (same_value x v) ≡ other) → IfSome r (λ passed. (t : Taped) (x : Value) → IsSeen t x s → is_other known x ≡ passed)
+passed_by known v s None e h = tt
+passed_by known v s (Some b) e h = λ t x seen. ap (λ o. is_other o x) e ∙ h t x seen
+
+-- a test of the item at a place that asks about no bits
+pub tested_by : (t : Taped) (place : ℕ) (test : Test) (s : Seen) (r : Option Bool) → ((x : Value) → IsAt t place x → IsSeen t x s) → ((x : Value) → bits_asked test x ≡ 0) → IfSome r (λ says. (u : Taped) (x : Value) → IsSeen u x s → passes test x ≡ says) → IfSome r (λ says. (x : Value) → IsAt t place x → (passes test x ≡ says) × (bits_asked test x ≡ 0))
+tested_by t place test s None seen none h = tt
+tested_by t place test s (Some b) seen none h = λ x on. (h t x (seen x on), none x)
+
+-- what is known of a key and of an entry whose key type is a literal
+
+pub not_other : (b : Bool) → not b ≡ true → b ≡ false
+not_other true e = sym e
+not_other false e = refl
+
+pub the_same : (b : Bool) → not b ≡ false → b ≡ true
+the_same true e = refl
+the_same false e = sym e
+
+pub literal_key : (type_at : TypeId → F.Node TypeId GroupId) (n : TypeId) (v : Value) → type_at n ≡ F.Plain (F.equals v) → F.key_in type_at F.most_forms n ≡ Some v
+unfolding F.key_in F.most_forms
+literal_key type_at n v e = rw e refl
+
+pub known_by : (l : Language TypeId GroupId) (e : F.MapEntry TypeId) (v : Value) (s : Seen) (r : Known) → ((x : Value) → F.is_passed_over l.counting e.key_type x ≡ is_other (Some v) x) → l.type_at e.key_type ≡ F.Plain (F.equals v) → IsLiteralKnown v s r → IsKnown l e s r
+known_by l e v s K.Other passed is h = λ t x seen. passed x ∙ ap not (h t x seen)
+known_by l e v s (K.Asked same) passed is h = λ t x seen. (passed x ∙ ap not (h t x seen), λ f. subst (λ n. FormSays l n x true 1) (sym is) (plain_says l (F.equals v) x true (h t x seen)))
+known_by l e v s K.Nothing passed is h = tt
+
+-- some judgements more
+
+pub said_as : (l : Language TypeId GroupId) (f g : F.Node TypeId GroupId) (k : ℕ) (x : Value) (r : Tells) → SaysAs l f g k → IsFormTold l g x r → IsFormTold l f x (more_told k r)
+said_as l f g k x (T.Yes w) a h = a x true w h
+said_as l f g k x (T.No w) a h = a x false w h
+said_as l f g k x T.Nothing a h = tt
+
+pub done_as : (l : Language TypeId GroupId) (f g : F.Group TypeId GroupId) (k : ℕ) (t : Taped) (place end : ℕ) (xs : Values) (r : Does) → DoesAs l f g k → IsGroupTold l g t place end xs r → IsGroupTold l f t place end xs (more_done k r)
+done_as l f g k t place end xs (D.Takes next w) a h = (h.0, h.1, a.0 (list_of xs) (list_of h.0) w h.2)
+done_as l f g k t place end xs (D.Fails w) a h = a.1 (list_of xs) w h
+done_as l f g k t place end xs D.Nothing a h = tt
+
+pub named_told : (l : Language TypeId GroupId) (m : TypeId) (x : Value) (r : Tells) → IsFormTold l (l.type_at m) x r → IsFormTold l (F.Ref m) x (one_more r)
+named_told l m x (T.Yes w) h = ref_says l m x true w h
+named_told l m x (T.No w) h = ref_says l m x false w h
+named_told l m x T.Nothing h = tt
+
+pub tag_told : (l : Language TypeId GroupId) (t : F.TagNumber TypeId) (m : TypeId) (n : ℕ) (x y : Value) (r : Tells) → x ≡ tag n y → IsMeant t n true → IsFormTold l (l.type_at m) y r → IsFormTold l (F.TagOf t m) x (one_more r)
+tag_told l t m n x y (T.Yes w) is meant h = subst (λ z. FormSays l (F.TagOf t m) z true (1 + w)) (sym is) (tagged_says l t m n y true w (is_meant l t n meant) h)
+tag_told l t m n x y (T.No w) is meant h = subst (λ z. FormSays l (F.TagOf t m) z false (1 + w)) (sym is) (tagged_says l t m n y false w (is_meant l t n meant) h)
+tag_told l t m n x y T.Nothing is meant h = tt
+
+pub named_done : (l : Language TypeId GroupId) (g : GroupId) (t : Taped) (place end : ℕ) (xs : Values) (r : Does) → IsGroupTold l (l.group_at g) t place end xs r → IsGroupTold l (F.GroupRef g) t place end xs (one_more_done r)
+named_done l g t place end xs (D.Takes next w) h = (h.0, h.1, ref_takes l g (list_of xs) (list_of h.0) w h.2)
+named_done l g t place end xs (D.Fails w) h = ref_fails l g (list_of xs) w h
+named_done l g t place end xs D.Nothing h = tt
+
+-- an entry of an array
+
+pub no_item_fails : (l : Language TypeId GroupId) (m : TypeId) (xs : Values) → xs ≡ no_values → GroupFails l (F.Entry m) (list_of xs) 1
+no_item_fails l m xs e = subst (λ ys. GroupFails l (F.Entry m) ys 1) (ap list_of (sym e)) (entry_missing l m)
+
+pub item_taken : (l : Language TypeId GroupId) (m : TypeId) (t : Taped) (place end next w : ℕ) (xs : Values) → (f : IsFirstOf t place end next xs) → FormSays l (l.type_at m) f.first true w → (left : Values) × IsRest t place end xs next left × GroupTakes l (F.Entry m) (list_of xs) (list_of left) (1 + w)
+item_taken l m t place end next w xs f h = (f.others, first_taken t place end next xs f, subst (λ ys. GroupTakes l (F.Entry m) ys (list_of f.others) (1 + w)) (ap list_of (sym f.split)) (entry_takes l m f.first (list_of f.others) w h))
+
+pub item_fails : (l : Language TypeId GroupId) (m : TypeId) (t : Taped) (place end next w : ℕ) (xs : Values) → (f : IsFirstOf t place end next xs) → FormSays l (l.type_at m) f.first false w → GroupFails l (F.Entry m) (list_of xs) (1 + w)
+item_fails l m t place end next w xs f h = subst (λ ys. GroupFails l (F.Entry m) ys (1 + w)) (ap list_of (sym f.split)) (entry_fails l m f.first (list_of f.others) w h)
+
+-- an entry of a map
+
+pub entry_handed : (l : Language TypeId GroupId) (all es : List (F.MapEntry TypeId)) (e : F.MapEntry TypeId) (key held : Value) (k w : ℕ) → F.is_passed_over l.counting e.key_type key ≡ false → IsEntryTold l e key held (H.HandsOn w) → EntriesCome l all (e ∷ es) key held k → EntriesCome l all es key held (k + (F.entry_cost l.counting + w))
+entry_handed l all es e key held k w is h c = ⊎_elim (λ (n : FormSays l (l.type_at e.key_type) key false w). entry_other l all es e key held k w is n c) (λ (r : (e.cuts ≡ false) × IsAsked l e key held false w). subst (λ v. EntriesCome l all es key held (k + (F.entry_cost l.counting + v))) (sym r.1.sum) (entry_hands_on l all es e key held k r.1.first r.1.second is r.0 r.1.keyed r.1.valued c)) h
+
+pub entry_taken : (l : Language TypeId GroupId) (all es : List (F.MapEntry TypeId)) (e : F.MapEntry TypeId) (key held : Value) (k w n : ℕ) → n ≡ length es → F.is_passed_over l.counting e.key_type key ≡ false → IsAsked l e key held true w → EntriesCome l all (e ∷ es) key held k → PairTaken l all key held n (k + (F.entry_cost l.counting + w))
+entry_taken l all es e key held k w n many is a c = subst (λ m. PairTaken l all key held m (k + (F.entry_cost l.counting + w))) (sym many) (subst (λ v. PairTaken l all key held (length es) (k + (F.entry_cost l.counting + v))) (sym a.sum) (pair_taken l all es e key held k a.first a.second is a.keyed a.valued c))
+
+pub entry_falls : (l : Language TypeId GroupId) (all es : List (F.MapEntry TypeId)) (e : F.MapEntry TypeId) (key held : Value) (k w : ℕ) → F.is_passed_over l.counting e.key_type key ≡ false → e.cuts ≡ true → IsAsked l e key held false w → EntriesCome l all (e ∷ es) key held k → PairFails l all key held (k + (F.entry_cost l.counting + w))
+entry_falls l all es e key held k w is cuts a c = subst (λ v. PairFails l all key held (k + (F.entry_cost l.counting + v))) (sym a.sum) (pair_cut l all es e key held k a.first a.second is cuts a.keyed a.valued c)
+
+-- counts of pairs
+
+pub zeros : (m n : ℕ) → ◌≡◌ {A = ℕ} (get_or (replicate m 0) n 0) 0
+zeros zero n = refl
+zeros (suc m) zero = refl
+zeros (suc m) (suc n) = zeros m n
+
+pub counted_pair : (l : Language TypeId GroupId) (es : List (F.MapEntry TypeId)) (all ps : Pairs) (key held : Value) (counts : List ℕ) (m number k v : ℕ) (fallen : Bool) → number + suc m ≡ length es → number < length counts → PairsCome l es all (pair key held ps) counts fallen k → PairTaken l es key held m v → PairsCome l es all ps (set counts number (get_or counts number 0 + 1)) fallen (k + (F.pair_cost l.counting (length es) + v))
+counted_pair l es all ps key held counts m number k v true here inside c t = pair_beside l es all ps key held counts m k v c t
+counted_pair l es all ps key held counts m number k v false here inside c t = pair_counted l es all ps key held counts m number k v here inside c t
+
+-- a list of one
+pub one_of : {A : Type 0} (xs : List A) (d : A) → 1 ≤ length xs → length xs < 2 → xs ≡ slice_index_or xs 0 d ∷ []
+one_of [] d h i = absurd (omega (arith, h))
+one_of (x ∷ []) d h i = refl
+one_of (x ∷ y ∷ xs) d h i = absurd (omega (arith, i))
+
+-- pairs that were sorted to the entries of an alternative
+
+pub alike_views : (n : ℕ) (es fs : List MapEntry) → BeginAlike n es fs → BeginAlike n (entries_view es) (entries_view fs)
+alike_views n es fs h = (omega (arith, h.0, length-map fs entry_view), take-map entry_view n es ∙ ap entries_view h.1 ∙ sym (take-map entry_view n fs))
+
+pub sorting_falls : (l : Language TypeId GroupId) (es : List (F.MapEntry TypeId)) (ps : Pairs) (s : Sorted) (k : ℕ) → s.asked ≡ Some k → s.fallen ≡ true → AreSorted l es ps s → WaySays l es ps false (1 + k)
+sorting_falls l es ps s k is fallen h =
+    let a : IsSorting l es ps s k = subst (λ o. IfSome o (IsSorting l es ps s)) is h in
+    way_falls l es ps s.counts k (subst (λ b. PairsSorted l es ps s.counts b k) fallen a.sorted)
+
+pub sorting_says : (l : Language TypeId GroupId) (es : List (F.MapEntry TypeId)) (ps : Pairs) (s : Sorted) (told : Bool) (k : ℕ) → s.asked ≡ Some k → s.fallen ≡ false → are_enough_from es 0 s.counts ≡ told → AreSorted l es ps s → WaySays l es ps told (1 + k)
+sorting_says l es ps s told k is fallen enough h =
+    let a : IsSorting l es ps s k = subst (λ o. IfSome o (IsSorting l es ps s)) is h in
+    way_says l es ps s.counts told k enough (subst (λ b. PairsSorted l es ps s.counts b k) fallen a.sorted)
+
+pub sorting_again : (l : Language TypeId GroupId) (es fs : List (F.MapEntry TypeId)) (ps : Pairs) (s : Sorted) → ((m n : ℕ) → F.pair_cost l.counting m ≡ F.pair_cost l.counting n) → s.fallen ≡ false → BeginAlike s.reach es fs → AreSorted l es ps s → AreSorted l fs ps s
+sorting_again l es fs ps s cost fallen alike h = by s.asked h
+  where
+    again : (k : ℕ) → IsSorting l es ps s k → IsSorting l fs ps s k
+    again k a = record {
+      within = alike.0;
+      none = a.none;
+      sorted = subst (λ b. PairsSorted l fs ps s.counts b k) (sym fallen) (sorted_again l s.reach es fs ps s.counts k cost a.within a.none alike (subst (λ b. PairsSorted l es ps s.counts b k) fallen a.sorted));
+    }
+
+    by : (o : Option ℕ) → IfSome o (IsSorting l es ps s) → IfSome o (IsSorting l fs ps s)
+    by None i = tt
+    by (Some k) i = again k i
+
+pub or_true : (b : Bool) → (b || true) ≡ true
+or_true true = refl
+or_true false = refl
+
+pub or_false : (b : Bool) → (b || false) ≡ b
+or_false true = refl
+or_false false = refl
+
+-- what bytes hold that are whole on a tape
+
+all_of : (b : List ℕ) → take (length b) b ≡ b
+all_of [] = refl
+all_of (n ∷ b) = ap (λ (c : List ℕ). n ∷ c) (all_of b)
+
+module _ (l : Language TypeId GroupId) (f : F.Node TypeId GroupId) (b : List ℕ) (t : List Entry) (n : ℕ) (h : IsWholeTape 256 b t n) (e : n ≡ length b) where
+  embeds : Embeds b h.value
+  embeds = record { spells = subst (λ (c : List ℕ). Spells h.value c) (ap (λ k. take k b) e ∙ all_of b) h.whole.spells; valid = h.valid; shallow = h.whole.shallow }
+
+  pub held_told : (r : Tells) → IsFormTold l f h.value r → IsHeldTold l f b r
+  held_told (T.Yes w) says = (h.value, embeds, says)
+  held_told (T.No w) says = (h.value, embeds, says)
+  held_told T.Nothing says = says

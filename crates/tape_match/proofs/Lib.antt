@@ -1,0 +1,3 @@
+mod Again
+mod Left
+mod Says
