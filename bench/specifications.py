@@ -20,8 +20,9 @@ of 1,000, are read against that, and as many that are all the same against this 
 A stream of messages with one signature, whose protected headers are in a byte string, is read against the
 specification in examples/cose_sign1.cddl and against 'any', as the arrays are. The last streams are byte strings of two
 sizes: one with a large array in it, one with a sequence of many items, and 60, since one takes no longer than the program's
-start, with a string in a string and so on, 100 levels of them. The columns: the ratio of the processor time for the larger one to that for a stream of what
-is read in it, against 'any'; the growth of the processor time; and the peak memory for each byte of the item.
+start, with a string in a string and so on, 64 levels of them. The columns: the ratio of the processor time for the larger one
+to that for a stream of what is read in it, against 'any'; the growth of the processor time; and the peak memory for each byte
+of the item.
 
 The status is 1 where a specification is not answered as expected, where its growth or that for a byte string is
 outside 1.4 to 2.8, where the ratio for arrays is over 1.3 or one for sizes, maps or messages over 2, where the growth for
@@ -52,7 +53,7 @@ MOST_KEYS, PAIRS_OF_KEYS = 16_383, (10_000, 20_000)
 LITERALS, LISTS_OF_LITERALS, MOST_LITERALS_RATIO = 1000, 1000, 2
 COSE = os.path.join(os.path.dirname(os.path.dirname(os.path.abspath(__file__))), "examples", "cose_sign1.cddl")
 MOST_COSE_RATIO = 2
-LEVELS = 100
+LEVELS = 64
 STRINGS, MEMBERS, MOST_SIZES_RATIO = 2_000_000, 20_000, 2
 ACCEPTED = "accepted\n"
 
@@ -341,7 +342,7 @@ def held_sequence(count):
 
 
 def held_strings(size):
-    """A string in a string and so on, 100 levels round a number; and all of the strings, one after the other. Each is
+    """A string in a string and so on, 64 levels round a number; and all of the strings, one after the other. Each is
     a chunk behind empty ones, as many as it takes for each level to add the same number of bytes."""
     empty = size // LEVELS - 11
     levels = [b"\0"]
@@ -358,7 +359,7 @@ def byte_strings(program, folder):
     for name, make, sizes, items, text in (
         ("an array of 16 MiB by .cbor", held_array, (8 << 20, 16 << 20), 1, "r = bstr .cbor any\n"),
         ("a million numbers by .cborseq", held_sequence, (500_000, 1_000_000), 1, "r = bstr .cborseq [* uint]\n"),
-        (f"{LEVELS} strings in each other, of 32 KiB", held_strings, (16 * KIB, 32 * KIB), 60, "t = int / bstr .cbor t\n"),
+        (f"{LEVELS} strings in each other, of 64 KiB", held_strings, (32 * KIB, 64 * KIB), 60, "t = int / bstr .cbor t\n"),
     ):
         specification = written(folder, "held.cddl", text)
         made = [make(size) for size in sizes]
