@@ -50,7 +50,7 @@ impl<'b> Taped<'b> {
         Taped { bytes, tape }
     }
 
-    /// The major type of the item at the place (RFC 8949 section 3.1). `None` where there is none.
+    /// The major type of the item at the place (RFC 8949 section 3.1). `None` says nothing.
     #[inline(always)]
     pub fn major(&self, place: usize) -> Option<u8>
         ensures { IfSome result (λ major. (x : Value) → IsAt self.now place x → major_type x ≡ major) }
@@ -65,7 +65,7 @@ impl<'b> Taped<'b> {
         Some(self.bytes[head] / 32)
     }
 
-    /// The place after the item at the place and all that is below it. `None` where there is none.
+    /// The place after the item at the place and all that is below it. `None` says nothing.
     #[inline(always)]
     pub fn after(&self, place: usize) -> Option<usize>
         ensures { IfSome result (λ next. (x : Value) → IsAt self.now place x → next ≡ place + place_count x) }
