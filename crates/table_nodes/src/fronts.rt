@@ -1,4 +1,4 @@
-//! With how many entries the alternatives of maps begin as the alternative before each does, where these are many.
+//! With how many entries the alternatives of maps begin as the alternative before each does.
 
 ghost use Rattle.std.specs.Prelude.{◌≡◌, ◌-◌, IfOk, IfSome, List, Some, slice_get};
 ghost use Rattle.std.specs.List.{Contains};
@@ -60,6 +60,12 @@ pub(crate) fn front_in(alternatives: &[Vec<MapEntry>], way: usize) -> usize
     }
 }
 
+// Whether it is kept that an alternative of so many entries begins with so many as the one before does: where there are many
+// entries, but few of them are the same, it has an index of its own.
+fn is_kept(same: usize, entries: usize) -> bool {
+    same >= LEAST_INDEXED || (same > 0 && entries < LEAST_INDEXED)
+}
+
 // Puts the fronts of the alternatives of a map after the others.
 fn push_fronts_of_map(
     types: &[Node],
@@ -71,9 +77,9 @@ fn push_fronts_of_map(
     requires before { AreFronts types.now fronts.old.items }
     ensures { IfOk result (λ _. AreFronts types.now fronts.new.items) }
 {
-    for way in 1..alternatives.len() {
+    for (way, others) in alternatives.iter().enumerate() {
         let entries = front_in(alternatives, way);
-        if entries >= LEAST_INDEXED {
+        if is_kept(entries, others.len()) {
             fronts.push(Front { of, way, entries })?;
         }
     }
@@ -108,25 +114,39 @@ pub(crate) fn fronts_of(alloc: Global, types: &[Node]) -> Result<Vec<Front>, All
     Ok(fronts)
 }
 
-// The front that is kept of an alternative of a map. They are in the order of their types.
+// Where the fronts of a map begin, or of those after it: they are in the order of their types.
 #[inline]
-fn find(fronts: &[Front], of: TypeId, way: usize) -> Option<&Front>
+pub(crate) fn fronts_from(fronts: &[Front], map: TypeId) -> usize {
+    fronts.partition_point(|front| front.of.number < map.number)
+}
+
+// The front of an alternative of a map, if it is kept at this position.
+#[inline(always)]
+fn find(fronts: &[Front], at: usize, of: TypeId, way: usize) -> Option<&Front>
     ensures { IfSome result (λ front. (front.now.of ≡ of) × (front.now.way ≡ way) × Contains fronts.now front.now) }
 {
-    let at = fronts.partition_point(|front| front.is_before(of, way));
     match fronts.get(at) {
         Some(front) if front.of.number == of.number && front.way == way => Some(front),
         _ => None,
     }
 }
 
-// With how many of its entries an alternative of a map begins as the one before does, as far as that is kept.
+// With how many of its entries an alternative of a map begins as the one before does, if that is kept at this position.
+#[inline(always)]
+pub(crate) fn front_near(fronts: &[Front], at: usize, of: TypeId, way: usize) -> usize
+    ensures { (types : List Node) (ways : List (List (Entry TypeId))) (some others : List (Entry TypeId)) → AreFronts types fronts.now → type_in types of ≡ MapOf ways → slice_get ways (way - 1) ≡ Some some → slice_get ways way ≡ Some others → BeginAlike result some others }
+{
+    match find(fronts, at, of, way) {
+        Some(front) => front.entries,
+        None => 0,
+    }
+}
+
+// The same, as far as that is kept.
 #[inline]
 pub(crate) fn front_at(fronts: &[Front], of: TypeId, way: usize) -> usize
     ensures { (types : List Node) (ways : List (List (Entry TypeId))) (some others : List (Entry TypeId)) → AreFronts types fronts.now → type_in types of ≡ MapOf ways → slice_get ways (way - 1) ≡ Some some → slice_get ways way ≡ Some others → BeginAlike result some others }
 {
-    match find(fronts, of, way) {
-        Some(front) => front.entries,
-        None => 0,
-    }
+    let at = fronts.partition_point(|front| front.is_before(of, way));
+    front_near(fronts, at, of, way)
 }

@@ -8,7 +8,7 @@ ghost use Rattle.table_nodes.specs.Majors.{AreShown, are_shown_once};
 ghost use Rattle.table_nodes.specs.Nodes.{language_in};
 ghost use Rattle.table_nodes.specs.Ranks.{greatest, rank_in};
 
-use crate::fronts::{Front, front_at, fronts_of};
+use crate::fronts::{Front, front_at, front_near, fronts_from, fronts_of};
 use crate::indexes::{LiteralIndex, index_at, indexes_of};
 use crate::keys::literal_in;
 use crate::majors::{Told, known_of, told_of};
@@ -224,13 +224,29 @@ impl Table {
         index_at(&self.indexes, map, way)
     }
 
-    /// With how many of its entries an alternative of a map, by its number, begins as the one before it does. It is kept where there
-    /// are 10 or more, so that an index of the one before serves it.
+    /// With how many of its entries an alternative of a map, by its number, begins as the one before it does, as far as that is
+    /// kept, else 0: it is kept of each alternative of fewer than 10 entries; and of the others where these are 10 or more, so that
+    /// an index of the one before serves it.
     #[inline]
     pub fn front_of(&self, map: TypeId, way: usize) -> usize
         ensures { (ways : List (List (Entry TypeId))) (some others : List (Entry TypeId)) → (language_of self.now).type_at map ≡ MapOf ways → slice_get ways (way - 1) ≡ Some some → slice_get ways way ≡ Some others → BeginAlike result some others }
     {
         front_at(&self.fronts, map, way)
+    }
+
+    /// Where [`Table::front_near`] finds the first of the numbers that are kept of the alternatives of a map. The others follow, in
+    /// the order of these.
+    #[inline]
+    pub fn fronts_from(&self, map: TypeId) -> usize {
+        fronts_from(&self.fronts, map)
+    }
+
+    /// The same as [`Table::front_of`] without a search, where the number is kept at this position, else 0.
+    #[inline(always)]
+    pub fn front_near(&self, at: usize, map: TypeId, way: usize) -> usize
+        ensures { (ways : List (List (Entry TypeId))) (some others : List (Entry TypeId)) → (language_of self.now).type_at map ≡ MapOf ways → slice_get ways (way - 1) ≡ Some some → slice_get ways way ≡ Some others → BeginAlike result some others }
+    {
+        front_near(&self.fronts, at, map, way)
     }
 
     /// The one value that a type is known to be by its form: a value, or what a name or a choice of one stands for, through 16 of

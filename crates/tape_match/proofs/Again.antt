@@ -1,10 +1,10 @@
 -- Pairs that belong to the first entries of an alternative belong to the same ones in each alternative that begins with these.
-use Rattle.std.proofs.Common.{◌≡◌, ◌≢◌, ℕ, zero, suc, ◌+◌, ◌-◌, ◌<◌, ◌≤◌, ◌⊎◌, inl, inr, nat_eq, List, [], ◌∷◌, ◌++◌, length, get_or, take, drop, Bool, true, false, cond, ⊎_elim, refl, sym, ap, ◌∙◌, subst, arith}
+use Rattle.std.proofs.Common.{◌≡◌, ℕ, zero, suc, ◌+◌, ◌-◌, ◌<◌, ◌≤◌, ◌⊎◌, inl, inr, nat_eq, List, [], ◌∷◌, length, get_or, take, drop, Bool, true, false, cond, ⊎_elim, refl, sym, ap, ◌∙◌, subst, arith}
 use Rattle.std.proofs.lemmas.Bool.Decides.{nat_tests}
 use Rattle.lists.proofs.Lemmas.{before_or_not}
 use Rattle.cbor_data.specs.Value.{Value, Pairs, pair}
 use Rattle.cddl_meaning.specs.Forms.{Language, MapEntry, pair_cost}
-use Rattle.cddl_meaning.specs.Judges.{Answer, Yes, No, Fate, BelongsTo, Stray, count_of, Sorts, all_sorted, sort, Belongs, nowhere, passed_over, asked, BelongsAsked, other_key, here, cut_here, handed_on}
+use Rattle.cddl_meaning.specs.Judges.{Yes, No, Fate, BelongsTo, Stray, count_of, Sorts, all_sorted, sort, Belongs, nowhere, passed_over, asked, BelongsAsked, other_key, here, cut_here, handed_on}
 use Rattle.table_nodes.specs.Fronts.{BeginAlike}
 use Rattle.tape_match.specs.Says.{AreFates, PairsSorted, is_fallen}
 

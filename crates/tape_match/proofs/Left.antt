@@ -1,10 +1,10 @@
 -- What is told of items on a tape.
-use Rattle.std.proofs.Common.{◌≡◌, ◌≢◌, Bool, true, false, ◌||◌, Option, Some, None, IfSome, not, ℕ, zero, suc, get_or, set, replicate, ◌+◌, ◌<◌, ◌≤◌, ◌⊎◌, inl, inr, ⊎_elim, List, [], ◌∷◌, length, take, slice_index_or, refl, sym, ap, ◌∙◌, subst, arith}
+use Rattle.std.proofs.Common.{◌≡◌, ◌≢◌, Bool, true, false, ◌||◌, Option, Some, None, IfSome, not, ℕ, zero, suc, get_or, set, replicate, ◌+◌, ◌<◌, ◌≤◌, ⊎_elim, List, [], ◌∷◌, ◌&&◌, length, take, drop, slice_get, slice_index_or, Vec, Global, refl, sym, ap, ap₂, ◌∙◌, subst, arith}
 use Rattle.lists.proofs.Lemmas.{before_or_not}
 use Rattle.cbor_data.specs.Embedded.{Embeds}
 use Rattle.cbor_data.specs.Forms.{Spells}
 use Rattle.cbor_data.specs.Same.{same_value}
-use Rattle.cbor_data.specs.Value.{Value, uint, nint, bytes, text, array, pairs, tag, simple, float, Pairs, pair, Values, no_values, value, place_count, values_place_count}
+use Rattle.cbor_data.specs.Value.{Value, uint, nint, bytes, text, array, pairs, tag, simple, float, Pairs, pair, Values, no_values}
 use Rattle.cbor_tape.specs.Places.{IsAt, AreAt, IsFirstOf, IsSeen, major_type}
 use Rattle.cbor_tape.specs.Tape.{IsWholeTape}
 use Rattle.cbor_tape.specs.declared.entry.Entry.{Entry}
@@ -15,11 +15,13 @@ use Rattle.cddl_meaning.specs.Forms.{Language, Test, are_bits_among, bits_asked,
 use Rattle.table_nodes.specs.declared.nodes.GroupId.{GroupId}
 use Rattle.table_nodes.specs.declared.nodes.TypeId.{TypeId}
 use Rattle.table_nodes.specs.Majors.{TellsOf}
-use Rattle.std.proofs.lemmas.List.{length-map, take-map}
+use Rattle.std.proofs.lemmas.List.{take-take}
+use Rattle.std.proofs.lemmas.Option.{slice_get-map, slice_get_within}
+use Rattle.std.specs.Prelude.{option_map}
 use Rattle.table_nodes.specs.Fronts.{BeginAlike}
-use Rattle.table_nodes.specs.Nodes.{entries_view, entry_view}
+use Rattle.table_nodes.specs.Nodes.{alternatives_view, entries_view}
 use Rattle.table_nodes.specs.declared.nodes.MapEntry.{MapEntry}
-use Rattle.tape_match.specs.Says.{DoesAs, EntriesCome, FormSays, GroupFails, GroupTakes, IsMeant, PairFails, PairsCome, PairsSorted, PairTaken, SaysAs, WaySays, are_enough_from}
+use Rattle.tape_match.specs.Says.{DoesAs, EntriesCome, FormSays, GroupFails, GroupTakes, IsMeant, PairFails, PairsCome, PairsSorted, PairTaken, SaysAs, WaySays, IsLacking, are_enough_from, is_enough}
 use Rattle.tape_match.specs.Told.{AreSorted, IsAsked, IsEntryTold, IsFormTold, IsGroupTold, IsHeldTold, IsKnown, IsLiteralKnown, IsRest, IsSorting, more_done, more_told, one_more, one_more_done}
 use Rattle.tape_match.specs.declared.told.Tells.{Tells}
 use Rattle.tape_match.specs.declared.told.Tells.TheVariants as T
@@ -190,32 +192,106 @@ one_of (x ∷ y ∷ xs) d h i = absurd (omega (arith, i))
 
 -- pairs that were sorted to the entries of an alternative
 
-pub alike_views : (n : ℕ) (es fs : List MapEntry) → BeginAlike n es fs → BeginAlike n (entries_view es) (entries_view fs)
-alike_views n es fs h = (omega (arith, h.0, length-map fs entry_view), take-map entry_view n es ∙ ap entries_view h.1 ∙ sym (take-map entry_view n fs))
-
 pub sorting_falls : (l : Language TypeId GroupId) (es : List (F.MapEntry TypeId)) (ps : Pairs) (s : Sorted) (k : ℕ) → s.asked ≡ Some k → s.fallen ≡ true → AreSorted l es ps s → WaySays l es ps false (1 + k)
 sorting_falls l es ps s k is fallen h =
     let a : IsSorting l es ps s k = subst (λ o. IfSome o (IsSorting l es ps s)) is h in
     way_falls l es ps s.counts k (subst (λ b. PairsSorted l es ps s.counts b k) fallen a.sorted)
 
-pub sorting_says : (l : Language TypeId GroupId) (es : List (F.MapEntry TypeId)) (ps : Pairs) (s : Sorted) (told : Bool) (k : ℕ) → s.asked ≡ Some k → s.fallen ≡ false → are_enough_from es 0 s.counts ≡ told → AreSorted l es ps s → WaySays l es ps told (1 + k)
+-- what an alternative says of pairs none of which has fallen
+pub sorting_says : (l : Language TypeId GroupId) (es : List (F.MapEntry TypeId)) (ps : Pairs) (s : Sorted) (told : Bool) (k : ℕ) → s.asked ≡ Some k → s.fallen ≡ false → (IsLacking es s.counts 0 s.lacks → are_enough_from es 0 s.counts ≡ told) → AreSorted l es ps s → WaySays l es ps told (1 + k)
 sorting_says l es ps s told k is fallen enough h =
     let a : IsSorting l es ps s k = subst (λ o. IfSome o (IsSorting l es ps s)) is h in
-    way_says l es ps s.counts told k enough (subst (λ b. PairsSorted l es ps s.counts b k) fallen a.sorted)
+    way_says l es ps s.counts told k (enough (a.lacking fallen)) (subst (λ b. PairsSorted l es ps s.counts b k) fallen a.sorted)
 
-pub sorting_again : (l : Language TypeId GroupId) (es fs : List (F.MapEntry TypeId)) (ps : Pairs) (s : Sorted) → ((m n : ℕ) → F.pair_cost l.counting m ≡ F.pair_cost l.counting n) → s.fallen ≡ false → BeginAlike s.reach es fs → AreSorted l es ps s → AreSorted l fs ps s
-sorting_again l es fs ps s cost fallen alike h = by s.asked h
+get_alike : {A : Type 0} (n i : ℕ) (xs ys : List A) → take n xs ≡ take n ys → i < n → slice_get xs i ≡ slice_get ys i
+get_alike zero i xs ys e h = absurd (omega (arith, h))
+get_alike (suc n) i [] [] e h = refl
+get_alike (suc n) i [] (y ∷ ys) e h = let never : [] ≡ y ∷ take n ys = e in absurd (cc)
+get_alike (suc n) i (x ∷ xs) [] e h = let never : x ∷ take n xs ≡ [] = e in absurd (cc)
+get_alike (suc n) zero (x ∷ xs) (y ∷ ys) e h = let same : x ≡ y = cc e in ap Some same
+get_alike (suc n) (suc i) (x ∷ xs) (y ∷ ys) e h = let same : take n xs ≡ take n ys = cc e in get_alike n i xs ys same (omega (arith, h))
+
+-- The first entry that lacks pairs is one with which both alternatives begin.
+pub lacks_again : {N : Type 0} (front lacks : ℕ) (es fs : List (F.MapEntry N)) (counts : List ℕ) → BeginAlike front es fs → lacks < front → IsLacking es counts 0 lacks → IsLacking fs counts 0 lacks
+lacks_again front lacks es fs counts b less h = (
+  λ i e from before is. h.0 i e from before (get_alike front i es fs b.1 (omega (arith, before, less)) ∙ is),
+  λ e is. h.1 e (get_alike front lacks es fs b.1 less ∙ is),
+)
+
+-- None of those lacks any, and among the others it is this one.
+pub lacks_after : {N : Type 0} (front lacks more : ℕ) (es fs : List (F.MapEntry N)) (counts : List ℕ) → BeginAlike front es fs → front ≤ lacks → IsLacking es counts 0 lacks → IsLacking fs counts front more → IsLacking fs counts 0 more
+lacks_after front lacks more es fs counts b most h g = (λ i e from before is. ⊎_elim (λ (less : i < front). h.0 i e from (omega (arith, less, most)) (get_alike front i es fs b.1 less ∙ is)) (λ (up : front ≤ i). g.0 i e up before is) (before_or_not i front), g.1)
+
+all_enough : {N : Type 0} (es : List (F.MapEntry N)) (k : ℕ) (counts : List ℕ) → ((i : ℕ) (e : F.MapEntry N) → slice_get es i ≡ Some e → is_enough e (get_or counts (k + i) 0) ≡ true) → are_enough_from es k counts ≡ true
+all_enough [] k counts h = refl
+all_enough {N = N} (e ∷ es) k counts h =
+    let first : is_enough e (get_or counts k 0) ≡ true = subst (λ (n : ℕ). is_enough e (get_or counts n 0) ≡ true) (omega arith) (h 0 e refl) in
+    let others : are_enough_from es (suc k) counts ≡ true = all_enough es (suc k) counts (λ i d is. subst (λ (n : ℕ). is_enough d (get_or counts n 0) ≡ true) (omega arith) (h (suc i) d is)) in
+    ap₂ (λ (a b : Bool). a && b) first others
+
+one_lacks : {N : Type 0} (es : List (F.MapEntry N)) (k i : ℕ) (counts : List ℕ) (e : F.MapEntry N) → slice_get es i ≡ Some e → is_enough e (get_or counts (k + i) 0) ≡ false → are_enough_from es k counts ≡ false
+one_lacks [] k i counts e is h = let never : None ≡ Some e = is in absurd (cc)
+one_lacks (d ∷ es) k zero counts e is h =
+    let same : d ≡ e = cc is in
+    ap (λ (a : Bool). a && are_enough_from es (suc k) counts) (ap (λ c. is_enough c (get_or counts k 0)) same ∙ subst (λ (n : ℕ). is_enough e (get_or counts n 0) ≡ false) (omega arith) h)
+one_lacks (d ∷ es) k (suc i) counts e is h = and_false (is_enough d (get_or counts k 0)) (one_lacks es (suc k) i counts e is (subst (λ (n : ℕ). is_enough e (get_or counts n 0) ≡ false) (omega arith) h))
   where
-    again : (k : ℕ) → IsSorting l es ps s k → IsSorting l fs ps s k
+    and_false : (a : Bool) {b : Bool} → b ≡ false → (a && b) ≡ false
+    and_false true e = e
+    and_false false e = refl
+
+pub enough_by : {N : Type 0} (es : List (F.MapEntry N)) (counts : List ℕ) (lacks : ℕ) → length es ≤ lacks → IsLacking es counts 0 lacks → are_enough_from es 0 counts ≡ true
+enough_by es counts lacks most h = all_enough es 0 counts (λ i e is. let at : i ≡ 0 + i = omega arith in subst (λ (n : ℕ). is_enough e (get_or counts n 0) ≡ true) at (h.0 i e (omega arith) (omega (arith, most, slice_get_within es i e is)) is))
+
+pub lacking_by : {N : Type 0} (es : List (F.MapEntry N)) (counts : List ℕ) (lacks : ℕ) → lacks < length es → IsLacking es counts 0 lacks → are_enough_from es 0 counts ≡ false
+lacking_by es counts lacks less h = at es lacks less (λ e is. let up : lacks ≡ 0 + lacks = omega arith in one_lacks es 0 lacks counts e is (subst (λ (n : ℕ). is_enough e (get_or counts n 0) ≡ false) up (h.1 e is)))
+  where
+    at : {A : Type 0} {r : Type 0} (xs : List A) (i : ℕ) → i < length xs → ((x : A) → slice_get xs i ≡ Some x → r) → r
+    at [] i less k = absurd (omega (arith, less))
+    at (x ∷ xs) zero less k = k x refl
+    at (x ∷ xs) (suc i) less k = at xs i (omega (arith, less)) k
+
+pub shorter : {A : Type 0} (m n : ℕ) (xs ys : List A) → m ≤ n → BeginAlike n xs ys → BeginAlike m xs ys
+shorter m n xs ys h b = (omega (arith, h, b.0), sym (take-take m n xs h) ∙ ap (take m) b.1 ∙ take-take m n ys h)
+
+-- Pairs that were sorted to the entries of an alternative are so to those of one that begins with these, where another entry is the first that lacks any.
+pub sorting_again : (l : Language TypeId GroupId) (es fs : List (F.MapEntry TypeId)) (ps : Pairs) (s : Sorted) (lacks : ℕ) → ((m n : ℕ) → F.pair_cost l.counting m ≡ F.pair_cost l.counting n) → s.fallen ≡ false → BeginAlike s.reach es fs → (IsLacking es s.counts 0 s.lacks → IsLacking fs s.counts 0 lacks) → AreSorted l es ps s → AreSorted l fs ps (record { asked = s.asked; fallen = s.fallen; reach = s.reach; lacks = lacks; counts = s.counts })
+sorting_again l es fs ps s lacks cost fallen alike lack h = by s.asked h
+  where
+    r : Sorted
+    r = record { asked = s.asked; fallen = s.fallen; reach = s.reach; lacks = lacks; counts = s.counts }
+
+    again : (k : ℕ) → IsSorting l es ps s k → IsSorting l fs ps r k
     again k a = record {
       within = alike.0;
       none = a.none;
+      lacking = λ e. lack (a.lacking fallen);
       sorted = subst (λ b. PairsSorted l fs ps s.counts b k) (sym fallen) (sorted_again l s.reach es fs ps s.counts k cost a.within a.none alike (subst (λ b. PairsSorted l es ps s.counts b k) fallen a.sorted));
     }
 
-    by : (o : Option ℕ) → IfSome o (IsSorting l es ps s) → IfSome o (IsSorting l fs ps s)
+    by : (o : Option ℕ) → IfSome o (IsSorting l es ps s) → IfSome o (IsSorting l fs ps r)
     by None i = tt
     by (Some k) i = again k i
+
+pub way_view : (ways : List (Vec MapEntry Global)) (n : ℕ) (way : Vec MapEntry Global) → slice_get ways n ≡ Some way → slice_get (alternatives_view ways) n ≡ Some (entries_view way.items)
+way_view ways n way e = slice_get-map (λ (v : Vec MapEntry Global). entries_view v.items) ways n ∙ ap (option_map (λ (v : Vec MapEntry Global). entries_view v.items)) e
+
+-- one before is there, too
+pub some_at : {A : Type 0} (xs : List A) (m n : ℕ) (x : A) → slice_get xs n ≡ Some x → m ≤ n → (y : A) × (slice_get xs m ≡ Some y)
+some_at [] m n x e h = let never : None ≡ Some x = e in absurd (cc)
+some_at (y ∷ xs) zero n x e h = (y, refl)
+some_at (y ∷ xs) (suc m) zero x e h = absurd (omega (arith, h))
+some_at (y ∷ xs) (suc m) (suc n) x e h = some_at xs m n x e (omega (arith, h))
+
+-- the alternative after those before
+pub next_way : {A : Type 0} (xs : List A) (n : ℕ) (x : A) (ys : List A) → x ∷ ys ≡ drop n xs → (slice_get xs n ≡ Some x) × (ys ≡ drop (n + 1) xs)
+next_way [] zero x ys e = let never : x ∷ ys ≡ [] = e in absurd (cc)
+next_way [] (suc n) x ys e = let never : x ∷ ys ≡ [] = e in absurd (cc)
+next_way (a ∷ xs) zero x ys e = let first : x ≡ a = cc e in let others : ys ≡ xs = cc e in (ap Some (sym first), others)
+next_way (a ∷ xs) (suc n) x ys e =
+    let k = next_way xs n x ys e in
+    let one : suc (n + 1) ≡ suc n + 1 = omega arith in
+    (k.0, k.1 ∙ ap (λ (m : ℕ). drop m (a ∷ xs)) one)
 
 pub or_true : (b : Bool) → (b || true) ≡ true
 or_true true = refl

@@ -4,11 +4,11 @@ use Rattle.std.proofs.lemmas.Bool.Decides.{nat_tests}
 use Rattle.std.proofs.lemmas.List.{get_or-set_same, get_or-set_other}
 use Rattle.cbor_data.specs.Embedded.{Embeds}
 use Rattle.cbor_data.proofs.Lemmas.{form_some}
-use Rattle.cbor_data.specs.Value.{Value, uint, bytes, tag, place_count, Pairs, no_pairs, pair}
+use Rattle.cbor_data.specs.Value.{Value, bytes, tag, place_count, Pairs, no_pairs, pair}
 use Rattle.cddl_meaning.specs.Forms.{Language, Node, Plain, Ref, Choice, ArrayOf, TagOf, MapOf, Both, Such, Holding, one_item, Test, passes, bits_asked, Group, Entry, GroupRef, Sequence, Alternatives, Repeat, Most, MapEntry, TagNumber, any_number, exactly, such_as, members_in, bytes_in, pairs_in, is_passed_over, pair_cost, entry_cost}
 use Rattle.cddl_meaning.specs.Held.{Holds, item}
-use Rattle.cddl_meaning.specs.Judges.{Answer, Yes, No, Reply, Takes, Fails, ArraySays, whole, over, failed, Fate, BelongsTo, Stray, is_over, one_less, alternative_says, are_enough, is_up_to_most, by_counts, shown_by, either, count_of, first_failing, first_stray, Says, passed, missed, ref, choice, array, tagged, other_tag, map, left_no, left_yes, none_such, such_passed, such_missed, holder_no, holds_nothing, held_yes, held_no, Maps, no_alternative, alternative, Sorts, all_sorted, sort, Belongs, nowhere, passed_over, asked, BelongsAsked, other_key, here, cut_here, handed_on, Numbers, whichever, this_number, other_number, Chooses, no_more, this_one, not_this, Does, missing, matches, differs, group_ref, sequence, alternatives, repeat, DoesEach, all_done, one_fails, and_then, DoesFirst, all_fail, one_takes, or_else, Repeats, full, too_few, enough, empty_round, round}
-use Rattle.tape_match.specs.Says.{IsAnswer, IsMeant, are_enough_from, is_fallen, AreFates, FormSays, ChoiceComes, GroupTakes, GroupFails, SequenceComes, AlternativesCome, RoundsCome, EntriesCome, PairTaken, PairFails, PairsCome, PairsSorted, WaySays, MapComes, SaysAs, DoesAs}
+use Rattle.cddl_meaning.specs.Judges.{Answer, Yes, No, Reply, Takes, Fails, whole, over, failed, Fate, BelongsTo, Stray, is_over, one_less, alternative_says, are_enough, is_up_to_most, by_counts, shown_by, either, count_of, first_failing, first_stray, Says, passed, missed, ref, choice, array, tagged, other_tag, map, left_no, left_yes, none_such, such_passed, such_missed, holder_no, holds_nothing, held_yes, held_no, no_alternative, alternative, Sorts, all_sorted, sort, Belongs, nowhere, passed_over, asked, other_key, here, cut_here, handed_on, Numbers, whichever, this_number, other_number, no_more, this_one, not_this, Does, missing, matches, differs, group_ref, sequence, alternatives, repeat, all_done, one_fails, and_then, all_fail, one_takes, or_else, full, too_few, enough, empty_round, round}
+use Rattle.tape_match.specs.Says.{IsAnswer, IsMeant, are_enough_from, is_fallen, FormSays, ChoiceComes, GroupTakes, GroupFails, SequenceComes, AlternativesCome, RoundsCome, EntriesCome, PairTaken, PairFails, PairsCome, PairsSorted, WaySays, MapComes, SaysAs, DoesAs}
 
 more : (k v w : ℕ) → k + (v + w) ≡ (k + v) + w
 more k v w = omega arith

@@ -1,6 +1,6 @@
 -- What types say of items and groups do with them (see Judges.antt of cddl_meaning), without where a no shows: at every place
 -- it is the same, in so many judgements.
-use Rattle.std.specs.Prelude.{◌≡◌, ℕ, suc, ◌+◌, List, [], ◌∷◌, ◌++◌, length, get_or, Option, Some, Bool, true, false, ◌&&◌, nat_eq, nat_le}
+use Rattle.std.specs.Prelude.{◌≡◌, ℕ, suc, ◌+◌, List, [], ◌∷◌, ◌++◌, length, get_or, slice_get, ◌<◌, ◌≤◌, Some, Bool, true, false, ◌&&◌, nat_eq, nat_le}
 use Rattle.cbor_data.specs.Value.{Value, Pairs}
 use Rattle.cddl_meaning.specs.Forms.{Language, Node, Choice, MapOf, Group, Sequence, Alternatives, Most, MapEntry, TagNumber, any_number, exactly, such_as, pairs_in}
 use Rattle.cddl_meaning.specs.Judges.{Answer, Yes, No, Reply, Takes, Fails, Fate, BelongsTo, Stray, alternative_says, count_of, is_up_to_most, Says, Maps, Sorts, Belongs, Chooses, Does, DoesEach, DoesFirst, Repeats}
@@ -28,10 +28,18 @@ abbrev pub AreFates : (fallen : Bool) → (entries : ℕ) → (counts : List ℕ
 AreFates true entries counts fs = is_fallen fs ≡ true
 AreFates false entries counts fs = (is_fallen fs ≡ false) × ((n i : ℕ) → i + suc n ≡ entries → count_of n fs ≡ get_or counts i 0)
 
+-- so many pairs may belong to an entry
+abbrev pub is_enough : {N : Type 0} → MapEntry N → ℕ → Bool
+is_enough e n = nat_le e.least n && is_up_to_most n e.most
+
+-- Of the entries from the number `from` on, as many pairs belong to each before the number `lacks` as it asks for, and not so to the entry of this number, if there is one.
+abbrev pub IsLacking : {N : Type 0} → List (MapEntry N) → (counts : List ℕ) → (from lacks : ℕ) → Type 0
+IsLacking {N = N} es counts from lacks = ((i : ℕ) (e : MapEntry N) → from ≤ i → i < lacks → slice_get es i ≡ Some e → is_enough e (get_or counts i 0) ≡ true) × ((e : MapEntry N) → slice_get es lacks ≡ Some e → is_enough e (get_or counts lacks 0) ≡ false)
+
 -- as many pairs belong to each of these entries, the first of which has this number, as it asks for
 abbrev pub are_enough_from : {N : Type 0} → List (MapEntry N) → (number : ℕ) → (counts : List ℕ) → Bool
 are_enough_from [] i counts = true
-are_enough_from (e ∷ es) i counts = (nat_le e.least (get_or counts i 0) && is_up_to_most (get_or counts i 0) e.most) && are_enough_from es (suc i) counts
+are_enough_from (e ∷ es) i counts = is_enough e (get_or counts i 0) && are_enough_from es (suc i) counts
 
 module _ {N G : Type 0} (l : Language N G) where
   -- what a form says of an item

@@ -10,7 +10,7 @@ use Rattle.cddl_meaning.specs.Forms as F
 use Rattle.cddl_meaning.specs.Forms.{Language, list_of}
 use Rattle.table_nodes.specs.declared.nodes.GroupId.{GroupId}
 use Rattle.table_nodes.specs.declared.nodes.TypeId.{TypeId}
-use Rattle.tape_match.specs.Says.{FormSays, GroupTakes, GroupFails, PairTaken, PairFails, PairsSorted, WaySays}
+use Rattle.tape_match.specs.Says.{FormSays, IsLacking, GroupTakes, GroupFails, PairTaken, PairFails, PairsSorted, WaySays}
 use Rattle.tape_match.specs.declared.told.Tells.{Tells}
 use Rattle.tape_match.specs.declared.told.Tells.TheVariants as T
 use Rattle.tape_match.specs.declared.told.Does.{Does}
@@ -140,10 +140,11 @@ module _ (l : Language TypeId GroupId) where
   IsKnown e s (K.Asked same) = (t : Taped) (x : Value) → IsSeen t x s → (F.is_passed_over l.counting e.key_type x ≡ false) × (same ≡ true → FormSays l (l.type_at e.key_type) x true 1)
   IsKnown e s K.Nothing = Unit {0}
 
-  -- Pairs have their fates with these entries. If none has fallen, each belongs to one of the first entries, so many.
+  -- Pairs have their fates with these entries. If none has fallen, each belongs to one of the first entries, so many, and the first entry that lacks pairs, or has too many, is known.
   pub record IsSorting (es : List (F.MapEntry TypeId)) (ps : Pairs) (s : Sorted) (asked : ℕ) : Type 0 where
     pub within : s.reach ≤ length es
     pub none : (i : ℕ) → s.reach ≤ i → get_or s.counts i 0 ≡ 0
+    pub lacking : s.fallen ≡ false → IsLacking es s.counts 0 s.lacks
     pub sorted : PairsSorted l es ps s.counts s.fallen asked
 
   abbrev pub AreSorted : List (F.MapEntry TypeId) → Pairs → Sorted → Type 0

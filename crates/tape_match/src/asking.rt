@@ -56,6 +56,7 @@ pub fn accepts(table: &Table, bytes: &[u8], tape: &[Entry], spare: &mut [Entry],
     let mut spare = Spare {
         tape: spare,
         left: bytes.len().saturating_mul(READINGS),
+        fronts: 0,
     };
     match type_tells(&on, &mut spare, table.root(), 0, MOST_CALLS, steps) {
         Tells::Yes(_) => true,
@@ -65,8 +66,8 @@ pub fn accepts(table: &Table, bytes: &[u8], tape: &[Entry], spare: &mut [Entry],
 
 // What a type says of the item at the place.
 #[cycle(asking)]
-#[inline]
-pub(crate) fn type_tells(
+#[inline(always)]
+fn type_tells(
     on: &Asked<'_, '_>,
     spare: &mut Spare<'_>,
     node: TypeId,
@@ -90,6 +91,23 @@ pub(crate) fn type_tells(
             form_tells(on, spare, node, place, depth - 1, most)
         }
     }
+}
+
+// The same of a key or a value of a map. That need not be part of the code for maps.
+#[cycle(asking)]
+#[inline]
+pub(crate) fn part_tells(
+    on: &Asked<'_, '_>,
+    spare: &mut Spare<'_>,
+    node: TypeId,
+    place: usize,
+    depth: u8,
+    most: u64,
+) -> Tells
+    ensures told { IsFormToldAt (language_of on.now.table.now) ((language_of on.now.table.now).type_at node) on.now.taped place result }
+    ensures within { IsWithin most result }
+{
+    type_tells(on, spare, node, place, depth, most)
 }
 
 // The type that a name or a choice of one type stands for.
@@ -181,7 +199,7 @@ fn own_form_tells(
         Node::TagOf(number, content) => {
             tag_tells(on, spare, *number, *content, place, depth, most)
         }
-        Node::MapOf(ways) => map_tells(on, spare, ways, place, depth, most),
+        Node::MapOf(ways) => map_tells(on, spare, node, ways, place, depth, most),
         Node::Both(first, second) => both_tell(on, spare, *first, *second, place, depth, most),
         Node::Such(of, test) => such_tells(on, spare, *of, test, place, depth, most),
         Node::Holding(of, Content::OneItem, held) => {
@@ -208,7 +226,7 @@ fn test_tells(test: &Test, on: &Asked<'_, '_>, place: usize) -> Tells
 
 // The first yes of these types, asked in order.
 #[cycle(asking)]
-#[inline(never)]
+#[inline(always)]
 fn choice_tells(
     on: &Asked<'_, '_>,
     spare: &mut Spare<'_>,
@@ -357,6 +375,7 @@ fn such_tells(
 
 // A type, and one of the item that the byte string at the place holds.
 #[cycle(asking)]
+#[inline(always)]
 fn holder_tells(
     on: &Asked<'_, '_>,
     spare: &mut Spare<'_>,
@@ -417,6 +436,7 @@ fn held_tells(
     let mut inner = Spare {
         tape: rest,
         left: spare.left - bytes.len(),
+        fronts: spare.fronts,
     };
     let held = Asked {
         table,
@@ -424,6 +444,7 @@ fn held_tells(
     };
     let told = type_tells(&held, &mut inner, node, 0, depth, most);
     spare.left = inner.left;
+    spare.fronts = inner.fronts;
     told
 }
 

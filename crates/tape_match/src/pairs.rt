@@ -1,5 +1,5 @@
 //! What maps on a tape say by what becomes of their pairs with the entries of each alternative.
-ghost use Rattle.std.specs.Prelude.{◌≡◌, ◌<◌, ◌≤◌, ◌+◌, ◌^◌, ℕ, length, IfSome, IsTrue, Some, true};
+ghost use Rattle.std.specs.Prelude.{◌≡◌, ◌<◌, ◌≤◌, ◌+◌, ◌-◌, ◌^◌, ℕ, List, length, slice_get, IfSome, IsTrue, Some, true};
 ghost use Rattle.cbor_data.specs.Value.{Pairs, Value};
 ghost use Rattle.cbor_tape.specs.Places.{ArePairsAt, IsAt, IsSeen};
 ghost use Rattle.cbor_tape.specs.declared.places.Taped.{Taped};
@@ -10,16 +10,16 @@ ghost use Rattle.table_nodes.specs.declared.nodes.GroupId.{GroupId as G};
 ghost use Rattle.table_nodes.specs.declared.nodes.TypeId.{TypeId as N};
 ghost use Rattle.table_nodes.specs.Language.{language_of};
 ghost use Rattle.table_nodes.specs.Nodes.{alternatives_view, entries_view, entry_view, most_view};
-ghost use Rattle.tape_match.specs.Says.{FormSays, are_enough_from};
+ghost use Rattle.table_nodes.specs.Fronts.{BeginAlike};
+ghost use Rattle.tape_match.specs.Says.{FormSays, IsLacking, is_enough};
 ghost use Rattle.tape_match.specs.Told.{AreSorted, AreSortedAt, IsEntryTold, IsEntryToldAt, IsFormTold, IsFormToldAt, IsHandedWithin, IsKnown, IsLiteralKnown, IsMetWithin, IsPairToldAt, IsWayTold, IsWithin};
 
-use crate::asking::type_tells;
+use crate::asking::part_tells;
 use crate::leaf::is_other;
 use crate::told::{Asked, Known, Meets, Met, Sorted, Spare, Tells, not_sorted};
 use cbor_tape::Seen;
 use item_nodes::Item;
-use match_moves::begin_alike;
-use table_nodes::{MapEntry, Most, Node, Table, Test};
+use table_nodes::{MapEntry, Most, Node, Table, Test, TypeId};
 
 /// An alternative of so many entries is not gone through: the table has an index of them.
 const MANY: usize = 10;
@@ -33,19 +33,21 @@ const FEW: usize = 16;
 pub(crate) fn map_tells(
     on: &Asked<'_, '_>,
     spare: &mut Spare<'_>,
+    map: TypeId,
     ways: &[Vec<MapEntry>],
     place: usize,
     depth: u8,
     most: u64,
 ) -> Tells
-    requires { 0 < most }
+    requires some { 0 < most }
+    requires form { (language_of on.now.table.now).type_at map ≡ F.MapOf (alternatives_view ways.now) }
     ensures told { IsFormToldAt (language_of on.now.table.now) (F.MapOf (alternatives_view ways.now)) on.now.taped place result }
     ensures within { IsWithin most result }
 {
     let Some(Seen::Map { first, end }) = on.taped.seen(place) else {
         return Tells::Nothing;
     };
-    ways_tell(on, spare, ways, first, end, depth, most)
+    ways_tell(on, spare, map, ways, first, end, depth, most)
 }
 
 // The same of the map whose pairs have the places from this one up to `end`.
@@ -54,35 +56,40 @@ pub(crate) fn map_tells(
 fn ways_tell(
     on: &Asked<'_, '_>,
     spare: &mut Spare<'_>,
+    map: TypeId,
     ways: &[Vec<MapEntry>],
     place: usize,
     end: usize,
     depth: u8,
     most: u64,
 ) -> Tells
-    requires { 0 < most }
+    requires some { 0 < most }
+    requires form { (language_of on.now.table.now).type_at map ≡ F.MapOf (alternatives_view ways.now) }
     ensures told { (ps : Pairs) → ArePairsAt on.now.taped place end ps → (x : Value) → F.pairs_in x ≡ Some ps → IsFormTold (language_of on.now.table.now) (F.MapOf (alternatives_view ways.now)) x result }
     ensures within { IsWithin most result }
 {
     let mut asked = 1;
     let mut says = false;
     let mut sorted = not_sorted();
-    let mut before: &[MapEntry] = &[];
+    let mut fronts = fronts_from(on.table, map, ways, spare.fronts);
+    spare.fronts = fronts;
+    let mut number = 0;
     let mut left = ways;
     while let Some((way, others)) = left.split_first() {
         let entries = way.as_slice();
-        sorted = way_sorts(
+        let front = front_for(on.table, fronts, map, number);
+        fronts = next_of(fronts, front);
+        way_sorts(
             on,
             spare,
-            sorted,
-            before,
+            &mut sorted,
+            front,
             entries,
             place,
             end,
             depth,
             most - asked,
         );
-        before = entries;
         match way_tells(&sorted, entries, most - asked) {
             Tells::Yes(more) => {
                 asked += more;
@@ -91,6 +98,7 @@ fn ways_tell(
             Tells::No(more) => asked += more,
             Tells::Nothing => return Tells::Nothing,
         }
+        number += 1;
         left = others;
     }
     if says {
@@ -100,34 +108,61 @@ fn ways_tell(
     }
 }
 
-// What becomes of the pairs that have the places from this one up to `end` in an alternative of these entries. Alternatives
-// often begin with the same entries: where each pair belongs to one of these in the alternative before, the pairs are not asked
-// again.
+// Where the table may keep with how many entries the alternatives of a map begin alike: often where it did so of the map before.
+#[inline(always)]
+fn fronts_from(table: &Table, map: TypeId, ways: &[Vec<MapEntry>], before: usize) -> usize {
+    if ways.len() < 2 || table.front_near(before, map, 1) > 0 {
+        return before;
+    }
+    table.fronts_from(map)
+}
+
+// With how many entries an alternative begins as the one before does, as far as the table keeps it there.
+#[inline(always)]
+fn front_for(table: &Table, fronts: usize, map: TypeId, way: usize) -> usize
+    ensures { (ways : List (List (F.MapEntry N))) (some others : List (F.MapEntry N)) → (language_of table.now).type_at map ≡ F.MapOf ways → slice_get ways (way - 1) ≡ Some some → slice_get ways way ≡ Some others → BeginAlike result some others }
+{
+    if way == 0 {
+        return 0;
+    }
+    table.front_near(fronts, map, way)
+}
+
+// The same after an alternative of which it keeps this.
+#[inline(always)]
+fn next_of(fronts: usize, front: usize) -> usize {
+    fronts.wrapping_add(usize::from(front > 0))
+}
+
+// What becomes of the pairs that have the places from this one up to `end` in an alternative of these entries, by what became of
+// them in the one before, which begins with so many of these: where each pair belongs to one of them, the pairs are not asked again.
 #[cycle(asking)]
 #[inline(always)]
 fn way_sorts(
     on: &Asked<'_, '_>,
     spare: &mut Spare<'_>,
-    sorted: Sorted,
-    before: &[MapEntry],
+    sorted: &mut Sorted,
+    front: usize,
     entries: &[MapEntry],
     place: usize,
     end: usize,
     depth: u8,
     most: u64,
-) -> Sorted
-    requires { AreSortedAt (language_of on.now.table.now) (entries_view before.now) on.now.taped place end sorted }
-    ensures { AreSortedAt (language_of on.now.table.now) (entries_view entries.now) on.now.taped place end result }
+)
+    ensures { (before : List (F.MapEntry N)) → BeginAlike front before (entries_view entries.now) → AreSortedAt (language_of on.now.table.now) before on.now.taped place end sorted.old → AreSortedAt (language_of on.now.table.now) (entries_view entries.now) on.now.taped place end sorted.new }
 {
-    if !sorted.fallen && begin_alike(before, entries, sorted.reach) {
-        return sorted;
+    if sorted.fallen || front < sorted.reach || entries.len() >= MANY {
+        *sorted = pairs_sort(on, spare, entries, place, end, depth, most);
+        return;
     }
-    pairs_sort(on, spare, entries, place, end, depth, most)
+    if front <= sorted.lacks {
+        sorted.lacks = lacking(entries, &sorted.counts, front);
+    }
 }
 
 // The same, by each pair.
 #[cycle(asking)]
-#[inline(always)]
+#[inline(never)]
 fn pairs_sort(
     on: &Asked<'_, '_>,
     spare: &mut Spare<'_>,
@@ -173,6 +208,7 @@ fn pairs_sort(
         asked: Some(asked),
         fallen,
         reach,
+        lacks: lacking(entries, &counts, 0),
         counts,
     }
 }
@@ -197,35 +233,44 @@ fn way_tells(sorted: &Sorted, entries: &[MapEntry], most: u64) -> Tells
     let Some(asked) = sorted.asked else {
         return Tells::Nothing;
     };
-    if asked >= most || entries.len() >= MANY {
+    if asked >= most {
         return Tells::Nothing;
     }
     if sorted.fallen {
         return Tells::No(1 + asked);
     }
-    if are_enough(entries, &sorted.counts) {
-        return Tells::Yes(1 + asked);
+    if sorted.lacks < entries.len() {
+        return Tells::No(1 + asked);
     }
-    Tells::No(1 + asked)
+    Tells::Yes(1 + asked)
 }
 
-// Whether as many pairs belong to each of these entries as it asks for, by its number.
+// The number of the first of these entries, from this one on, to which too few pairs belong, or too many; or a number that is none
+// of theirs.
 #[inline(always)]
-fn are_enough(entries: &[MapEntry], counts: &[u16; FEW]) -> bool
+fn lacking(entries: &[MapEntry], counts: &[u16; FEW], from: usize) -> usize
     requires { length entries.now ≤ 16 }
-    ensures { result ≡ are_enough_from (entries_view entries.now) 0 counts.now }
+    ensures { IsLacking (entries_view entries.now) counts.now from result }
 {
-    let mut number = 0;
-    let mut left = entries;
-    while let Some((entry, others)) = left.split_first() {
-        let count = u64::from(counts[number]);
-        if count < entry.least || !is_up_to(count, entry.most) {
-            return false;
+    let mut number = from;
+    while let Some(entry) = entries.get(number) {
+        if !is_enough(entry, u64::from(counts[number])) {
+            return number;
         }
         number += 1;
-        left = others;
     }
-    true
+    number
+}
+
+// Whether an entry asks for no more and no fewer pairs.
+#[inline(always)]
+fn is_enough(entry: &MapEntry, count: u64) -> bool
+    ensures { result ≡ is_enough (entry_view entry.now) count }
+{
+    if count == 0 {
+        return entry.least == 0;
+    }
+    count >= entry.least && is_up_to(count, entry.most)
 }
 
 // Whether so many pairs may belong to an entry.
@@ -241,6 +286,7 @@ fn is_up_to(count: u64, most: Most) -> bool
 
 // What becomes of a pair, whose key and value have these places, that is tried with these entries.
 #[cycle(asking)]
+#[inline(always)]
 fn pair_meets(
     on: &Asked<'_, '_>,
     spare: &mut Spare<'_>,
@@ -316,7 +362,7 @@ fn entry_meets(
         }
         return value_meets(on, spare, entry, 1, held, depth, most - 1);
     }
-    match type_tells(on, spare, entry.key_type, key, depth, most) {
+    match part_tells(on, spare, entry.key_type, key, depth, most) {
         Tells::Yes(asked) => { value_meets(on, spare, entry, asked, held, depth, most - asked) }
         Tells::No(asked) => Met::HandsOn(asked),
         Tells::Nothing => Met::Nothing,
@@ -339,7 +385,7 @@ fn value_meets(
     ensures told { (k x : Value) → FormSays (language_of on.now.table.now) ((language_of on.now.table.now).type_at entry.now.key_type) k true asked → IsAt on.now.taped held x → IsEntryTold (language_of on.now.table.now) (entry_view entry.now) k x result }
     ensures within { IsHandedWithin (asked + most) result }
 {
-    match type_tells(on, spare, entry.value_type, held, depth, most) {
+    match part_tells(on, spare, entry.value_type, held, depth, most) {
         Tells::Yes(more) => Met::Takes(asked + more),
         Tells::No(more) if entry.cuts => Met::Falls(asked + more),
         Tells::No(more) => Met::HandsOn(asked + more),

@@ -11,11 +11,13 @@ ghost use Rattle.tape_match.specs.Told.{IsDoneWithin, IsFormTold, IsWithin, more
 use cbor_tape::{Entry, Taped};
 use table_nodes::Table;
 
-/// Where the tapes of what byte strings hold are written, and how many bytes of them may be read yet.
+/// Where the tapes of what byte strings hold are written, how many bytes of them may be read yet, and where the table keeps with
+/// how many entries the alternatives of the map that was asked last begin alike.
 #[derive(Drop)]
 pub(crate) struct Spare<'s> {
     pub tape: &'s mut [Entry],
     pub left: usize,
+    pub fronts: usize,
 }
 
 /// What is asked: the types and groups of a table, of the items on a tape.
@@ -91,6 +93,8 @@ pub(crate) struct Sorted {
     pub fallen: bool,
     /// Each pair belongs to one of so many of the first entries.
     pub reach: usize,
+    /// The number of the first entry to which too few pairs belong, or too many; or one that is no entry's, if there is none.
+    pub lacks: usize,
     /// So many pairs belong to each entry, by its number.
     pub counts: [u16; 16],
 }
@@ -104,6 +108,7 @@ pub(crate) fn not_sorted() -> Sorted
         asked: None,
         fallen: true,
         reach: 0,
+        lacks: 0,
         counts: [0u16; 16],
     }
 }

@@ -1,19 +1,18 @@
-use Rattle.std.proofs.Common.{◌≡◌, ℕ, suc, ◌+◌, ◌-◌, ◌<◌, ◌≤◌, List, [], replicate, set, Option, Some, IfSome, true, false, length, get_or, refl, sym, ap, ◌∙◌, subst, arith}
+use Rattle.std.proofs.Common.{◌≡◌, ℕ, suc, ◌+◌, ◌-◌, ◌<◌, List, [], replicate, set, IfSome, true, false, length, get_or, slice_get, refl, sym, ap, ◌∙◌, subst, arith}
 use Rattle.std.proofs.lemmas.Bool.Decides.{nat_tests}
 use Rattle.std.proofs.lemmas.List.{get_or-set_other, length-map, length-set}
-use Rattle.lists.proofs.Lemmas.{none_left}
-use Rattle.cbor_data.specs.Value.{Value, Values, Pairs, no_values, no_pairs}
-use Rattle.cbor_tape.specs.Places.{IsAt, AreAt, ArePairsAt}
+use Rattle.lists.proofs.Lemmas.{none_left, same_some}
 use Rattle.cddl_meaning.specs.Forms as F
 use Rattle.cddl_meaning.specs.Forms.{list_of, members_in, pairs_in}
-use Rattle.cddl_meaning.specs.Judges.{one_less}
+use Rattle.table_nodes.specs.Fronts.{BeginAlike}
 use Rattle.table_nodes.specs.Language.{language_of}
 use Rattle.table_nodes.specs.Majors.{told_view}
 use Rattle.table_nodes.specs.Nodes.{alternatives_view, entries_view, entry_view, group_view, most_view, tag_number_view, test_view, type_view}
 use Rattle.tape_match.specs.Says.{FormSays, GroupTakes, IsMeant, MapComes, PairsCome, RoundsCome}
-use Rattle.tape_match.specs.Told.{IsFormTold, IsGroupTold, IsSorting, one_more, one_more_done}
-use Rattle.tape_match.proofs.Left.{alike_views, all_left, as_many, done_as, not_other, said_as, sorting_again, counted_pair, entry_falls, entry_handed, entry_taken, fewer_left, further_left, item_fails, item_taken, named_done, held_told, named_told, no_item_fails, or_false, or_true, tag_told, told_says, zeros}
+use Rattle.tape_match.specs.Told.{AreSortedAt, IsFormTold, IsGroupTold, IsSorting, one_more, one_more_done}
+use Rattle.tape_match.proofs.Left.{all_left, lacks_after, lacks_again, next_way, shorter, some_at, way_view, as_many, done_as, said_as, sorting_again, counted_pair, entry_falls, entry_handed, entry_taken, fewer_left, further_left, item_fails, item_taken, named_done, held_told, named_told, no_item_fails, or_false, or_true, tag_told, told_says, zeros}
 use Rattle.tape_match.proofs.Says.{alternatives_fail, alternatives_no, alternatives_start, alternatives_take, array_fails, array_left, array_taken, both_says, choice_no, choice_none, choice_start, choice_yes, entries_start, entry_passed, held_of, holder_no_says, holds_none_says, left_no_says, map_done, map_more, map_start, none_such_says, not_meant, pair_falls, pair_stray, pairs_done, pairs_start, rounds_empty, rounds_end, rounds_fail, rounds_full, rounds_more, rounds_start, sequence_done, sequence_fails, sequence_more, sequence_start, such_says}
+use Rattle.tape_match.proofs.+asking.Goals.{pairs::ways_tell-in-Yes, pairs::ways_tell-in-No}
 use Rattle.tape_match.proofs.+asking.Goals as goal
 
 -- types
@@ -285,40 +284,6 @@ pairs::map_tells-returns-clause-told t c x on =
     let s = (rw c.in-Some-Map.field-0-is at c.in-Some-Map.ensures) x on in
     c.ways_tell.ensures.told s.0 s.2 x (ap pairs_in s.1)
 
-pub pairs::ways_tell-loop-way-init : goal.pairs::ways_tell-loop-way-init
-pairs::ways_tell-loop-way-init t c = record {
-  some = omega arith;
-  within = omega (arith, c.requires);
-  sorted = λ ps on. subst (λ o. IfSome o (IsSorting (language_of c.args.on.now.table.now) [] ps c.not_sorted-sorted.result)) (sym c.not_sorted-sorted.ensures) tt;
-  comes = λ ps on. map_start (language_of c.args.on.now.table.now) (alternatives_view c.args.ways.now) ps;
-}
-
-pub pairs::ways_tell-loop-way-preserved-in-Yes : goal.pairs::ways_tell-loop-way-preserved-in-Yes
-pairs::ways_tell-loop-way-preserved-in-Yes t c = record {
-  some = omega (arith, c.loop-way.invariant.some);
-  within = omega (arith, c.loop-way.invariant.within, c.in-Yes.ensures.within);
-  sorted = c.way_sorts-sorted.ensures;
-  comes = λ ps on.
-      let l = language_of c.args.on.now.table.now in
-      let all = alternatives_view c.args.ways.now in
-      let others = alternatives_view c.in-Some.others.now in
-      let asked : _ = c.loop-way.asked + c.in-Yes.more in
-      subst (λ b. MapComes l all others ps b asked) (or_true c.loop-way.says) (map_more l all others (entries_view c.in-Some.way.now.items) ps c.loop-way.says true c.loop-way.asked c.in-Yes.more ((rw c.in-Some.ensures.cases.0 at c.loop-way.invariant.comes) ps on) (rw c.as_slice-entries.ensures.value at (c.in-Yes.ensures.told l ps (c.way_sorts-sorted.ensures ps on))));
-}
-
-pub pairs::ways_tell-loop-way-preserved : goal.pairs::ways_tell-loop-way-preserved
-pairs::ways_tell-loop-way-preserved t c = record {
-  some = omega (arith, c.loop-way.invariant.some);
-  within = omega (arith, c.loop-way.invariant.within, c.in-No.ensures.within);
-  sorted = c.way_sorts-sorted.ensures;
-  comes = λ ps on.
-      let l = language_of c.args.on.now.table.now in
-      let all = alternatives_view c.args.ways.now in
-      let others = alternatives_view c.in-Some.others.now in
-      let asked : _ = c.loop-way.asked + c.in-No.more in
-      subst (λ b. MapComes l all others ps b asked) (or_false c.loop-way.says) (map_more l all others (entries_view c.in-Some.way.now.items) ps c.loop-way.says false c.loop-way.asked c.in-No.more ((rw c.in-Some.ensures.cases.0 at c.loop-way.invariant.comes) ps on) (rw c.as_slice-entries.ensures.value at (c.in-No.ensures.told l ps (c.way_sorts-sorted.ensures ps on))));
-}
-
 pub pairs::ways_tell-returns-then-says-clause-told : goal.pairs::ways_tell-returns-then-says-clause-told
 pairs::ways_tell-returns-then-says-clause-told t c ps on x is =
     let l = language_of c.args.on.now.table.now in
@@ -390,13 +355,9 @@ pairs::pairs_sort-returns t c = λ ps on.
     record {
       within = omega (arith, c.loop-held.invariant.reached, length-map c.args.entries.now entry_view);
       none = c.loop-held.invariant.none;
+      lacking = λ e. c.lacking.ensures;
       sorted = pairs_done l es ps c.loop-held.counts c.loop-held.fallen c.loop-held.asked (subst (λ qs. PairsCome l es ps qs c.loop-held.counts c.loop-held.fallen c.loop-held.asked) (c.in_default.ensures a.0 a.1) a.2);
     }
-
-pub pairs::way_sorts-returns-then-begin_alike : goal.pairs::way_sorts-returns-then-begin_alike
-pairs::way_sorts-returns-then-begin_alike t c = λ ps on.
-    let l = language_of c.args.on.now.table.now in
-    sorting_again l (entries_view c.args.before.now) (entries_view c.args.entries.now) ps c.args.sorted (λ m n. refl) (not_other c.args.sorted.fallen c.if-not-sorted.true) (alike_views c.args.sorted.reach c.args.before.now c.args.entries.now (c.begin_alike.ensures c.if-begin_alike.true)) (c.requires ps on)
 
 pub pairs::pair_meets-loop-entry-init : goal.pairs::pair_meets-loop-entry-init
 pairs::pair_meets-loop-entry-init t c = record {
@@ -441,3 +402,65 @@ pairs::pair_meets-returns-in-Takes-clause-told t c k x kon xon =
     let others = c.in-Some-split_first.others.now in
     let many : length others ≡ length (entries_view others) = sym (length-map others entry_view) in
     entry_taken (language_of c.args.on.now.table.now) (entries_view c.args.entries.now) (entries_view others) (entry_view c.in-Some-split_first.entry.now) k x c.loop-entry.asked c.in-Takes.more _ many asked (c.in-Takes.ensures.told k x kon xon) ((rw c.in-Some-split_first.ensures.cases.0 at c.loop-entry.invariant.comes) k x kon xon)
+
+pub pairs::way_sorts-returns-then-front-sorted-2 : goal.pairs::way_sorts-returns-then-front-sorted-2
+pairs::way_sorts-returns-then-front-sorted-2 t c = λ before alike h ps on.
+    let l = language_of c.args.on.now.table.now in
+    let s = c.args.sorted.now in
+    let es = entries_view c.args.entries.now in
+    sorting_again l before es ps s c.lacking-sorted.result (λ m n. refl) c.if-sorted.false (shorter s.reach c.args.front before es c.if-front-sorted.false alike) (λ k. lacks_after c.args.front s.lacks c.lacking-sorted.result before es s.counts alike c.if-front-sorted-2.true k c.lacking-sorted.ensures) (h ps on)
+
+pub pairs::way_sorts-returns-else-front-sorted-2 : goal.pairs::way_sorts-returns-else-front-sorted-2
+pairs::way_sorts-returns-else-front-sorted-2 t c = λ before alike h ps on.
+    let l = language_of c.args.on.now.table.now in
+    let s = c.args.sorted.now in
+    let es = entries_view c.args.entries.now in
+    sorting_again l before es ps s s.lacks (λ m n. refl) c.if-sorted.false (shorter s.reach c.args.front before es c.if-front-sorted.false alike) (lacks_again c.args.front s.lacks before es s.counts alike c.if-front-sorted-2.false) (h ps on)
+
+pub pairs::ways_tell-loop-way-init : goal.pairs::ways_tell-loop-way-init
+pairs::ways_tell-loop-way-init t c = record {
+  some = omega arith;
+  within = omega (arith, c.requires.some);
+  at = refl;
+  sorted = λ before is ps on. subst (λ o. IfSome o (IsSorting (language_of c.args.on.now.table.now) before ps c.not_sorted-sorted.result)) (sym c.not_sorted-sorted.ensures) tt;
+  comes = λ ps on. map_start (language_of c.args.on.now.table.now) (alternatives_view c.args.ways.now) ps;
+}
+
+pub pairs::ways_tell-loop-way-preserved : goal.pairs::ways_tell-loop-way-preserved
+pairs::ways_tell-loop-way-preserved t c =
+    let l = language_of c.args.on.now.table.now in
+    let all = alternatives_view c.args.ways.now in
+    let others = alternatives_view c.in-Some.others.now in
+    let es = entries_view c.in-Some.way.now.items in
+    let number = c.loop-way.number in
+    let next = next_way c.args.ways.now number c.in-Some.way.now c.in-Some.others.now (sym c.in-Some.ensures.cases.0 ∙ c.loop-way.invariant.at) in
+    let here = way_view c.args.ways.now number c.in-Some.way.now next.0 in
+    let before = some_at all (number - 1) number es here (omega arith) in
+    let alike = c.front_for-front.ensures all before.0 es c.requires.form before.1 here in
+    let is = c.as_slice-entries.ensures.value in
+    let sorts = c.way_sorts.ensures before.0 (subst (λ xs. BeginAlike c.front_for-front.result before.0 (entries_view xs)) (sym is) alike) (c.loop-way.invariant.sorted before.0 before.1) in
+    record {
+      some = elim c.match-way_tells.branch [
+        | pairs::ways_tell-in-Yes w ↦ omega (arith, w.asked-is, c.loop-way.invariant.some)
+        | pairs::ways_tell-in-No w ↦ omega (arith, w.asked-is, c.loop-way.invariant.some)
+      ];
+      within = elim c.match-way_tells.branch [
+        | pairs::ways_tell-in-Yes w ↦ omega (arith, w.asked-is, c.loop-way.invariant.within, w.in-Yes.ensures.within)
+        | pairs::ways_tell-in-No w ↦ omega (arith, w.asked-is, c.loop-way.invariant.within, w.in-No.ensures.within)
+      ];
+      at = next.1;
+      sorted = λ some there.
+          let one : number ≡ number + 1 - 1 = omega arith in
+          let same : es ≡ some = same_some (sym here ∙ ap (λ (k : ℕ). slice_get all k) one ∙ there) in
+          subst (λ xs. AreSortedAt l xs c.args.on.now.taped c.args.place c.args.end c.way_sorts.new.sorted) same (subst (λ xs. AreSortedAt l (entries_view xs) c.args.on.now.taped c.args.place c.args.end c.way_sorts.new.sorted) is sorts);
+      comes = λ ps on.
+          let so_far = (rw c.in-Some.ensures.cases.0 at c.loop-way.invariant.comes) ps on in
+          elim c.match-way_tells.branch [
+            | pairs::ways_tell-in-Yes w ↦
+                let more = map_more l all others es ps c.loop-way.says true c.loop-way.asked w.in-Yes.more so_far (rw is at (w.in-Yes.ensures.told l ps (sorts ps on))) in
+                subst (λ k. MapComes l all others ps c.match-way_tells.says k) (sym w.asked-is) (subst (λ b. MapComes l all others ps b (c.loop-way.asked + w.in-Yes.more)) (or_true c.loop-way.says ∙ sym w.says-is) more)
+            | pairs::ways_tell-in-No w ↦
+                let more = map_more l all others es ps c.loop-way.says false c.loop-way.asked w.in-No.more so_far (rw is at (w.in-No.ensures.told l ps (sorts ps on))) in
+                subst (λ k. MapComes l all others ps c.match-way_tells.says k) (sym w.asked-is) (subst (λ b. MapComes l all others ps b (c.loop-way.asked + w.in-No.more)) (or_false c.loop-way.says ∙ sym w.says-is) more)
+          ];
+    }

@@ -1,9 +1,10 @@
-use Rattle.std.proofs.Common.{◌≡◌, ℕ, ◌+◌, ◌-◌, ◌*◌, ◌≤◌, Some, length, get_or}
+use Rattle.std.proofs.Common.{◌≡◌, ℕ, ◌+◌, ◌-◌, ◌*◌, ◌≤◌, List, Some, length, drop, get_or, slice_get}
 use Rattle.cbor_data.specs.Value.{Value, Values, Pairs}
 use Rattle.cbor_tape.specs.Places.{IsAt, AreAt, ArePairsAt}
 use Rattle.cddl_meaning.specs.Forms as F
 use Rattle.cddl_meaning.specs.Forms.{list_of, pairs_in}
 use Rattle.table_nodes.specs.Language.{language_of}
+use Rattle.table_nodes.specs.declared.nodes.TypeId.{TypeId}
 use Rattle.table_nodes.specs.Nodes.{alternatives_view, entries_view, most_view}
 use Rattle.tape_match.specs.Says.{ChoiceComes, SequenceComes, AlternativesCome, RoundsCome, EntriesCome, PairsCome, MapComes}
 use Rattle.tape_match.specs.Told.{AreSortedAt, IsRest}
@@ -55,7 +56,8 @@ abbrev pub invariant-pairs::ways_tell-loop-way : goal.invariant-pairs::ways_tell
 invariant-pairs::ways_tell-loop-way l = record {
   some : 1 ≤ l.asked;
   within : l.asked ≤ l.fn.most;
-  sorted : AreSortedAt (language_of l.fn.on.table.now) (entries_view l.before) l.fn.on.taped l.fn.place l.fn.end l.sorted;
+  at : l.left ≡ drop l.number l.fn.ways;
+  sorted : (before : List (F.MapEntry TypeId)) → slice_get (alternatives_view l.fn.ways) (l.number - 1) ≡ Some before → AreSortedAt (language_of l.fn.on.table.now) before l.fn.on.taped l.fn.place l.fn.end l.sorted;
   comes : (ps : Pairs) → ArePairsAt l.fn.on.taped l.fn.place l.fn.end ps → MapComes (language_of l.fn.on.table.now) (alternatives_view l.fn.ways) (alternatives_view l.left) ps l.says l.asked;
 }
 
@@ -88,6 +90,9 @@ decreases-pairs::pair_meets-loop-entry l = length l.left
 
 abbrev pub decreases-asking::type_tells : goal.decreases-asking::type_tells
 decreases-asking::type_tells l = 16 * l.depth
+
+abbrev pub decreases-asking::part_tells : goal.decreases-asking::part_tells
+decreases-asking::part_tells l = 16 * l.depth + 1
 
 abbrev pub decreases-asking::form_tells : goal.decreases-asking::form_tells
 decreases-asking::form_tells l = 16 * l.depth + 15

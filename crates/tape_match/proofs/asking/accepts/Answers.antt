@@ -1,4 +1,4 @@
-use Rattle.std.proofs.Common.{◌≡◌, sym, ap, subst}
+use Rattle.std.proofs.Common.{subst}
 use Rattle.cddl_meaning.specs.Judges.{Says, Yes}
 use Rattle.table_nodes.specs.Language.{language_of}
 use Rattle.tape_match.proofs.asking.accepts.Goals as goal

@@ -1,4 +1,4 @@
-use Rattle.std.proofs.Common.{◌+◌, sym, subst, arith}
+use Rattle.std.proofs.Common.{sym, subst, arith}
 use Rattle.table_nodes.specs.Language.{language_of}
 use Rattle.tape_match.specs.Says.{SaysAs}
 use Rattle.tape_match.proofs.Says.{says_itself, says_on}

@@ -1,4 +1,4 @@
-use Rattle.std.proofs.Common.{◌≡◌, [], ◌∷◌, slice_index_or, sym, ap, ◌∙◌, subst}
+use Rattle.std.proofs.Common.{slice_index_or, sym, ap, ◌∙◌, subst}
 use Rattle.cddl_meaning.specs.Forms as F
 use Rattle.table_nodes.specs.Nodes.{group_view}
 use Rattle.tape_match.specs.Says.{DoesAs}

@@ -1,4 +1,4 @@
-use Rattle.std.proofs.Common.{true, false, ap, ◌∙◌, ◌≡◌, sym}
+use Rattle.std.proofs.Common.{true, false, ap, ◌∙◌, ◌≡◌}
 use Rattle.cddl_meaning.specs.Forms.{Plain, is_other}
 use Rattle.item_nodes.specs.View.{view}
 use Rattle.table_nodes.specs.Language.{language_of}
