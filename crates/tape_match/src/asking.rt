@@ -617,6 +617,31 @@ fn part_does(
     }
 }
 
+// What a group does that stands for this one by so many names.
+#[cycle(asking)]
+#[inline(always)]
+fn named_does(
+    on: &Asked<'_, '_>,
+    spare: &mut Spare<'_>,
+    named: GroupId,
+    names: u64,
+    place: usize,
+    end: usize,
+    depth: u8,
+    most: u64,
+) -> Does
+    requires { names ≤ 16 }
+    ensures told { (f : F.Group N G) → DoesAs (language_of on.now.table.now) f ((language_of on.now.table.now).group_at named) names → IsGroupToldAt (language_of on.now.table.now) f on.now.taped place end result }
+    ensures within { IsDoneWithin most result }
+{
+    if names >= most {
+        return Does::Nothing;
+    }
+    let left = most - names;
+    let done = part_does(on, spare, named, place, end, depth, left);
+    more_done(done, names, left)
+}
+
 // Each of these groups, with what the one before left.
 #[cycle(asking)]
 fn sequence_does(
@@ -713,8 +738,9 @@ fn rounds_do(
     let mut at = place;
     let mut fewest = least;
     let mut rest = times;
+    let (named, names) = behind_group_names(on.table, group);
     while !is_over(rest) {
-        match group_does(on, spare, group, at, end, depth, most - asked) {
+        match named_does(on, spare, named, names, at, end, depth, most - asked) {
             Does::Takes { next, asked: more } => {
                 asked += more;
                 if next == at {

@@ -154,6 +154,11 @@ asking::group_does-returns-clause-told t c xs on =
     let l = language_of c.args.on.now.table.now in
     subst (λ r. IsGroupTold l (l.group_at c.args.group) c.args.on.now.taped c.args.place c.args.end xs r) (sym c.more_done.ensures.more) (done_as l (l.group_at c.args.group) (l.group_at c.behind_group_names-names.result.0) c.behind_group_names-names.result.1 c.args.on.now.taped c.args.place c.args.end xs c.own_group_does-done.result c.behind_group_names-names.ensures.stands (c.own_group_does-done.ensures.told xs on))
 
+pub asking::named_does-returns-clause-told : goal.asking::named_does-returns-clause-told
+asking::named_does-returns-clause-told t c f stands xs on =
+    let l = language_of c.args.on.now.table.now in
+    subst (λ r. IsGroupTold l f c.args.on.now.taped c.args.place c.args.end xs r) (sym c.more_done.ensures.more) (done_as l f (l.group_at c.args.named) c.args.names c.args.on.now.taped c.args.place c.args.end xs c.part_does-done.result stands (c.part_does-done.ensures.told xs on))
+
 pub asking::own_group_does-returns-in-Ref-clause-told : goal.asking::own_group_does-returns-in-Ref-clause-told
 asking::own_group_does-returns-in-Ref-clause-told t c xs on =
     let l = language_of c.args.on.now.table.now in
@@ -225,8 +230,8 @@ asking::alternatives_do-loop-part-preserved t c = record {
 pub asking::alternatives_do-returns-clause-told : goal.asking::alternatives_do-returns-clause-told
 asking::alternatives_do-returns-clause-told t c xs on = alternatives_fail (language_of c.args.on.now.table.now) c.args.parts.now (list_of xs) c.loop-part.asked ((rw (none_left _ c.in_default.ensures.cases) at c.loop-part.invariant.comes) xs on)
 
-pub asking::rounds_do-loop-group-init : goal.asking::rounds_do-loop-group-init
-asking::rounds_do-loop-group-init t c = record {
+pub asking::rounds_do-loop-rest-init : goal.asking::rounds_do-loop-rest-init
+asking::rounds_do-loop-rest-init t c = record {
   some = omega arith;
   within = omega (arith, c.requires);
   comes = λ xs on. (xs, all_left c.args.on.now.taped c.args.place c.args.end xs on, rounds_start (language_of c.args.on.now.table.now) c.args.least (most_view c.args.times) c.args.group (list_of xs));
@@ -235,47 +240,47 @@ asking::rounds_do-loop-group-init t c = record {
 pub asking::rounds_do-returns-then-next-at-clause-told : goal.asking::rounds_do-returns-then-next-at-clause-told
 asking::rounds_do-returns-then-next-at-clause-told t c xs on =
     let l = language_of c.args.on.now.table.now in
-    let a = c.loop-group.invariant.comes xs on in
-    let k = c.in-Takes.ensures.told a.0 a.1.there in
-    let none = as_many c.args.on.now.taped c.loop-group.at c.args.end c.in-Takes.next a.0 k.0 k.1 c.if-next-at.true in
-    (a.0, a.1, rounds_empty l (F.Repeat c.args.least (most_view c.args.times) c.args.group) c.loop-group.fewest (most_view c.loop-group.rest) c.args.group (list_of xs) (list_of a.0) (list_of k.0) c.loop-group.asked c.in-Takes.more (sym c.is_over.ensures ∙ c.loop-group-test.true) none a.2 k.2)
+    let a = c.loop-rest.invariant.comes xs on in
+    let k = c.in-Takes.ensures.told (l.group_at c.args.group) c.behind_group_names-names.ensures.stands a.0 a.1.there in
+    let none = as_many c.args.on.now.taped c.loop-rest.at c.args.end c.in-Takes.next a.0 k.0 k.1 c.if-next-at.true in
+    (a.0, a.1, rounds_empty l (F.Repeat c.args.least (most_view c.args.times) c.args.group) c.loop-rest.fewest (most_view c.loop-rest.rest) c.args.group (list_of xs) (list_of a.0) (list_of k.0) c.loop-rest.asked c.in-Takes.more (sym c.is_over.ensures ∙ c.loop-rest-test.true) none a.2 k.2)
 
 pub asking::rounds_do-returns-then-fewest-gt0-clause-told : goal.asking::rounds_do-returns-then-fewest-gt0-clause-told
 asking::rounds_do-returns-then-fewest-gt0-clause-told t c xs on =
     let l = language_of c.args.on.now.table.now in
-    let a = c.loop-group.invariant.comes xs on in
-    rounds_fail l (F.Repeat c.args.least (most_view c.args.times) c.args.group) c.loop-group.fewest (most_view c.loop-group.rest) c.args.group (list_of xs) (list_of a.0) c.loop-group.asked c.in-Fails.more (λ e. omega (arith, e)) (sym c.is_over.ensures ∙ c.loop-group-test.true) a.2 (c.in-Fails.ensures.told a.0 a.1.there)
+    let a = c.loop-rest.invariant.comes xs on in
+    rounds_fail l (F.Repeat c.args.least (most_view c.args.times) c.args.group) c.loop-rest.fewest (most_view c.loop-rest.rest) c.args.group (list_of xs) (list_of a.0) c.loop-rest.asked c.in-Fails.more (λ e. omega (arith, e)) (sym c.is_over.ensures ∙ c.loop-rest-test.true) a.2 (c.in-Fails.ensures.told (l.group_at c.args.group) c.behind_group_names-names.ensures.stands a.0 a.1.there)
 
 pub asking::rounds_do-returns-in-Fails-clause-told : goal.asking::rounds_do-returns-in-Fails-clause-told
 asking::rounds_do-returns-in-Fails-clause-told t c xs on =
     let l = language_of c.args.on.now.table.now in
-    let a = c.loop-group.invariant.comes xs on in
-    (a.0, a.1, rounds_end l (F.Repeat c.args.least (most_view c.args.times) c.args.group) c.loop-group.fewest (most_view c.loop-group.rest) c.args.group (list_of xs) (list_of a.0) c.loop-group.asked c.in-Fails.more (omega arith) (sym c.is_over.ensures ∙ c.loop-group-test.true) a.2 (c.in-Fails.ensures.told a.0 a.1.there))
+    let a = c.loop-rest.invariant.comes xs on in
+    (a.0, a.1, rounds_end l (F.Repeat c.args.least (most_view c.args.times) c.args.group) c.loop-rest.fewest (most_view c.loop-rest.rest) c.args.group (list_of xs) (list_of a.0) c.loop-rest.asked c.in-Fails.more (omega arith) (sym c.is_over.ensures ∙ c.loop-rest-test.true) a.2 (c.in-Fails.ensures.told (l.group_at c.args.group) c.behind_group_names-names.ensures.stands a.0 a.1.there))
 
-pub asking::rounds_do-loop-group-preserved : goal.asking::rounds_do-loop-group-preserved
-asking::rounds_do-loop-group-preserved t c = record {
-  some = omega (arith, c.loop-group.invariant.some);
-  within = omega (arith, c.loop-group.invariant.within, c.in-Takes.ensures.within);
+pub asking::rounds_do-loop-rest-preserved : goal.asking::rounds_do-loop-rest-preserved
+asking::rounds_do-loop-rest-preserved t c = record {
+  some = omega (arith, c.loop-rest.invariant.some);
+  within = omega (arith, c.loop-rest.invariant.within, c.in-Takes.ensures.within);
   comes = λ xs on.
       let l = language_of c.args.on.now.table.now in
       let f = F.Repeat c.args.least (most_view c.args.times) c.args.group in
-      let a = c.loop-group.invariant.comes xs on in
-      let k = c.in-Takes.ensures.told a.0 a.1.there in
-      let fewer = fewer_left c.args.on.now.taped c.loop-group.at c.args.end c.in-Takes.next a.0 k.0 k.1 (omega arith) in
-      let more = rounds_more l f c.loop-group.fewest (most_view c.loop-group.rest) c.args.group (list_of xs) (list_of a.0) (list_of k.0) c.loop-group.asked c.in-Takes.more (sym c.is_over.ensures ∙ c.loop-group-test.true) fewer a.2 k.2 in
-      let least : c.saturating_sub-fewest.result ≡ c.loop-group.fewest - 1 = omega (arith, c.saturating_sub-fewest.ensures) in (
+      let a = c.loop-rest.invariant.comes xs on in
+      let k = c.in-Takes.ensures.told (l.group_at c.args.group) c.behind_group_names-names.ensures.stands a.0 a.1.there in
+      let fewer = fewer_left c.args.on.now.taped c.loop-rest.at c.args.end c.in-Takes.next a.0 k.0 k.1 (omega arith) in
+      let more = rounds_more l f c.loop-rest.fewest (most_view c.loop-rest.rest) c.args.group (list_of xs) (list_of a.0) (list_of k.0) c.loop-rest.asked c.in-Takes.more (sym c.is_over.ensures ∙ c.loop-rest-test.true) fewer a.2 k.2 in
+      let least : c.saturating_sub-fewest.result ≡ c.loop-rest.fewest - 1 = omega (arith, c.saturating_sub-fewest.ensures) in (
         k.0,
-        further_left c.args.on.now.taped c.args.place c.args.end c.loop-group.at c.in-Takes.next xs a.0 k.0 a.1 k.1,
-        subst (λ n. RoundsCome l f n (most_view c.one_less-rest.result) c.args.group (list_of xs) (list_of k.0) (c.loop-group.asked + c.in-Takes.more)) (sym least)
-            (subst (λ m. RoundsCome l f (c.loop-group.fewest - 1) m c.args.group (list_of xs) (list_of k.0) (c.loop-group.asked + c.in-Takes.more)) (sym c.one_less-rest.ensures) more),
+        further_left c.args.on.now.taped c.args.place c.args.end c.loop-rest.at c.in-Takes.next xs a.0 k.0 a.1 k.1,
+        subst (λ n. RoundsCome l f n (most_view c.one_less-rest.result) c.args.group (list_of xs) (list_of k.0) (c.loop-rest.asked + c.in-Takes.more)) (sym least)
+            (subst (λ m. RoundsCome l f (c.loop-rest.fewest - 1) m c.args.group (list_of xs) (list_of k.0) (c.loop-rest.asked + c.in-Takes.more)) (sym c.one_less-rest.ensures) more),
       );
 }
 
 pub asking::rounds_do-returns-clause-told : goal.asking::rounds_do-returns-clause-told
 asking::rounds_do-returns-clause-told t c xs on =
     let l = language_of c.args.on.now.table.now in
-    let a = c.loop-group.invariant.comes xs on in
-    (a.0, a.1, rounds_full l (F.Repeat c.args.least (most_view c.args.times) c.args.group) c.loop-group.fewest (most_view c.loop-group.rest) c.args.group (list_of xs) (list_of a.0) c.loop-group.asked (sym c.is_over.ensures ∙ c.loop-group-test.false) a.2)
+    let a = c.loop-rest.invariant.comes xs on in
+    (a.0, a.1, rounds_full l (F.Repeat c.args.least (most_view c.args.times) c.args.group) c.loop-rest.fewest (most_view c.loop-rest.rest) c.args.group (list_of xs) (list_of a.0) c.loop-rest.asked (sym c.is_over.ensures ∙ c.loop-rest-test.false) a.2)
 
 -- maps
 

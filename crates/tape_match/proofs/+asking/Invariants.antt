@@ -42,15 +42,15 @@ invariant-asking::alternatives_do-loop-part l = record {
 abbrev pub decreases-asking::alternatives_do-loop-part : goal.decreases-asking::alternatives_do-loop-part
 decreases-asking::alternatives_do-loop-part l = length l.left
 
-abbrev pub invariant-asking::rounds_do-loop-group : goal.invariant-asking::rounds_do-loop-group
-invariant-asking::rounds_do-loop-group l = record {
+abbrev pub invariant-asking::rounds_do-loop-rest : goal.invariant-asking::rounds_do-loop-rest
+invariant-asking::rounds_do-loop-rest l = record {
   some : 1 ≤ l.asked;
   within : l.asked ≤ l.fn.most;
   comes : (xs : Values) → AreAt l.fn.on.taped l.fn.place l.fn.end xs → (mid : Values) × IsRest l.fn.on.taped l.fn.place l.fn.end xs l.at mid × RoundsCome (language_of l.fn.on.table.now) (F.Repeat l.fn.least (most_view l.fn.times) l.fn.group) l.fewest (most_view l.rest) l.fn.group (list_of xs) (list_of mid) l.asked;
 }
 
-abbrev pub decreases-asking::rounds_do-loop-group : goal.decreases-asking::rounds_do-loop-group
-decreases-asking::rounds_do-loop-group l = l.fn.end - l.at
+abbrev pub decreases-asking::rounds_do-loop-rest : goal.decreases-asking::rounds_do-loop-rest
+decreases-asking::rounds_do-loop-rest l = l.fn.end - l.at
 
 abbrev pub invariant-pairs::ways_tell-loop-way : goal.invariant-pairs::ways_tell-loop-way
 invariant-pairs::ways_tell-loop-way l = record {
@@ -131,7 +131,7 @@ abbrev pub decreases-asking::alternatives_do : goal.decreases-asking::alternativ
 decreases-asking::alternatives_do l = 16 * l.depth + 4
 
 abbrev pub decreases-asking::rounds_do : goal.decreases-asking::rounds_do
-decreases-asking::rounds_do l = 16 * l.depth + 4
+decreases-asking::rounds_do l = 16 * l.depth + 5
 
 abbrev pub decreases-pairs::map_tells : goal.decreases-pairs::map_tells
 decreases-pairs::map_tells l = 16 * l.depth + 11
@@ -144,6 +144,9 @@ decreases-asking::own_group_does l = 16 * l.depth + 1
 
 abbrev pub decreases-asking::part_does : goal.decreases-asking::part_does
 decreases-asking::part_does l = 16 * l.depth + 3
+
+abbrev pub decreases-asking::named_does : goal.decreases-asking::named_does
+decreases-asking::named_does l = 16 * l.depth + 4
 
 abbrev pub decreases-pairs::ways_tell : goal.decreases-pairs::ways_tell
 decreases-pairs::ways_tell l = 16 * l.depth + 10
