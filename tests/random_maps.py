@@ -3,10 +3,10 @@
 
     random_maps.py PROGRAM [--count N] [--start K]
 
-Case number K is always the same: a map of alternatives of 10 entries or more, some of which begin alike, whose keys are
-literals, names of literals and other types, some of them again and again, and a few maps that are made of these keys. Each is
-asked twice: by itself, where each pair finds its entries by an index, and in 70 arrays, where the questions are asked by turns,
-which have none. Both have to match, or to fail at the same place, with the same part shown there, and the one in arrays takes
+Case number K is always the same: a map of alternatives of 10 entries or more, some of which begin alike, or differ only in the
+numbers of pairs that they ask for, whose keys are literals, names of literals and other types, some of them again and again, and
+a few maps that are made of these keys. Each is asked twice: by itself, where it is asked about on its tape, or each pair finds
+its entries by an index, and in 70 arrays, where the questions are asked by turns, which have neither. Both have to match, or to fail at the same place, with the same part shown there, and the one in arrays takes
 as many steps more as they do.
 
 Prints what differs, with the specification and the map in hex, and last 'N passed, M failed'.
@@ -36,9 +36,12 @@ KEYS = (
     ("simple", 20), ("simple", 22),
 )
 LONG_KEY = ("text", b"x" * 1024)
-OTHER_KEYS = ("uint", "int", "tstr", "bstr", "any", "0..10", '1 / "a"', "bool", "tstr .size 1")
-VALUES = (("uint", 0), ("uint", 1), ("text", b"x"), ("simple", 20), ("array", ()))
-VALUE_TYPES = ("int", "0", "1", "tstr", "bool", "any", "any", "[]", "int / tstr")
+KEY_OF_PARTS = ("array", (("uint", 1),))
+OTHER_KEYS = ("uint", "int", "tstr", "bstr", "any", "0..10", '1 / "a"', "bool", "tstr .size 1", "[1]")
+VALUES = (("uint", 0), ("uint", 1), ("uint", 3), ("uint", 12), ("text", b"x"), ("simple", 20), ("array", ()))
+VALUE_TYPES = ("int", "0", "1", "tstr", "bool", "any", "any", "[]", "int / tstr", "uint .bits b")
+BITS = "b = &(x: 0, y: 1, z: 2)"
+TIMES = ("? ", "? ", "? ", "* ", "* ", "0*2 ")
 
 
 class Names:
@@ -63,18 +66,29 @@ def key_type(chance, names):
 
 
 def entry(chance, names):
-    times = chance.choice(["? ", "? ", "? ", "* ", "* ", "0*2 ", "+ " if chance.random() < 0.1 else "* "])
+    times = chance.choice([*TIMES, "+ " if chance.random() < 0.1 else "* "])
     cut = chance.choice([" =>", " =>", " ^ =>"])
     return f"{times}{key_type(chance, names)}{cut} ({chance.choice(VALUE_TYPES)})"
+
+
+def other_times(chance, entries):
+    """The same entries, some of which ask for other numbers of pairs: one of them for one at least, as a group with + has it."""
+    changed = [f"{chance.choice(TIMES)}{it.split(' ', 1)[1]}" if chance.random() < 0.3 else it for it in entries]
+    if changed and chance.random() < 0.5:
+        at = chance.randrange(len(changed))
+        changed[at] = f"+ {changed[at].split(' ', 1)[1]}"
+    return changed
 
 
 def specification(chance):
     """The rules after the root, of which the first is the map."""
     names = Names()
     ways = []
-    for _ in range(chance.choice([1, 1, 2, 3, 5])):
-        entries = [entry(chance, names) for _ in range(chance.choice([10, 12, 15, 20, 40]))]
-        if ways and chance.random() < 0.7:
+    for _ in range(chance.choice([1, 1, 2, 3, 5, 13])):
+        entries = [entry(chance, names) for _ in range(chance.choice([10, 12, 13, 15, 16, 17, 20, 40]))]
+        if ways and chance.random() < 0.3:
+            entries = other_times(chance, ways[-1])
+        elif ways and chance.random() < 0.7:
             # alternatives that begin alike, and have few or many entries after those
             front = ways[-1][: chance.choice([len(ways[-1]) // 2, len(ways[-1]) - 2, len(ways[-1])])]
             entries = front + entries[: chance.choice([0, 1, 2, 5, 11, 12, 40])]
@@ -83,13 +97,14 @@ def specification(chance):
             entries.insert(chance.randrange(len(entries) + 1), f"? {literal(LONG_KEY)} => (int)")
         ways.append(entries)
     body = " // ".join(", ".join(it) for it in ways)
-    return "\n".join([f"m = {{ {body} }}", *names.rules, ""])
+    return "\n".join([f"m = {{ {body} }}", *names.rules, BITS, ""])
 
 
 def random_map(chance):
     count = chance.choice([0, 1, 2, 3, 5, 8, 20])
     keys = list(chance.sample((*KEYS, LONG_KEY) if chance.random() < 0.1 else KEYS, min(count, len(KEYS))))
     keys += [("uint", 1000 + it) for it in range(count - len(keys))]
+    keys += [KEY_OF_PARTS] * (chance.random() < 0.1)
     return "map", tuple((key, chance.choice(VALUES)) for key in keys)
 
 

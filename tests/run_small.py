@@ -57,6 +57,7 @@ ITEMS = {
     "arrays to breaks": nested(b"\x9f", 256, b"\1", b"\xff"),
     "tags": nested(b"\xc1", 256, b"\1"),
     "maps that are values": nested(b"\xa1\1", 256, b"\1"),
+    "maps that are values, as many as are asked about on a tape": nested(b"\xa1\1", 60, b"\1"),
     "maps that are keys": KEYS,
     "maps to breaks that are keys": KEYS_TO_BREAKS,
     "maps whose keys fall": FALLING,
@@ -91,6 +92,9 @@ ANY = "r = any\n"
 ITSELF = "r = [* r] / {* (r => r)} / #6.1(r) / bstr .cbor r / bool / int\n"
 GROUPS = "r = [(r // int, r)] / {? (r => r), * int => int} / bstr .cbor h / #6.1(r) / int\nh = {* h => h} / [* h] / bool / int\n"
 CONTROLS = "r = [a] / {1 => a}\na = (r .and any) / bstr .cbor c / bstr .cborseq [* c] / int\nc = [* c] / {* c => c} / (any .and d)\nd = any\n"
+# Alternatives of many entries, of which a map keeps to which each pair belongs.
+ENTRIES = ", ".join(f"? {it} => r" for it in range(1, 13))
+ALTERNATIVES = f"r = {{{ENTRIES}, ? 20 => int // {ENTRIES}, ? 21 => int}} / int\n"
 # A mismatch in the innermost place, whose path is told.
 TEXTS = "r = [* r] / {* r => r} / {* any => r} / #6.1(r) / text\n"
 
@@ -138,7 +142,7 @@ def inputs():
         yield f"specification: {name}", [["check", text.encode()], ["validate", text.encode(), b"\1"]]
     for name, item in ITEMS.items():
         commands = [["show", item], ["rewrite", ANY.encode(), item], ["rewrite", "--deterministic", ANY.encode(), item]]
-        yield f"item: {name}", commands + [["validate", spec.encode(), item] for spec in (ITSELF, GROUPS, CONTROLS, TEXTS)]
+        yield f"item: {name}", commands + [["validate", spec.encode(), item] for spec in (ITSELF, GROUPS, CONTROLS, ALTERNATIVES, TEXTS)]
 
 
 def run(limit, words):

@@ -4,13 +4,14 @@ ghost use Rattle.std.specs.Prelude.{◌≡◌, max};
 ghost use Rattle.cddl_meaning.specs.Ranks.Ranked.{IsRanked};
 ghost use Rattle.table_nodes.specs.Fronts.{AreFronts, are_fronts_once};
 ghost use Rattle.table_nodes.specs.Indexes.{AreIndexed, are_indexed_once};
+ghost use Rattle.table_nodes.specs.Keys.{AreLiterals, are_literals_once};
 ghost use Rattle.table_nodes.specs.Majors.{AreShown, are_shown_once};
 ghost use Rattle.table_nodes.specs.Nodes.{language_in};
 ghost use Rattle.table_nodes.specs.Ranks.{greatest, rank_in};
 
 use crate::fronts::{Front, front_at, front_near, fronts_from, fronts_of};
 use crate::indexes::{LiteralIndex, index_at, indexes_of};
-use crate::keys::literal_in;
+use crate::keys::{literal_at, literals_of};
 use crate::majors::{Told, known_of, told_of};
 use crate::nodes::{Group, GroupId, MapEntry, Node, TypeId};
 use crate::ranks::{NotRanked, Ranks, are_ranked, greatest};
@@ -29,11 +30,13 @@ pub struct Table {
     group_ranks: Vec<usize>,
     ranks: usize,
     told: Vec<[Told; 8]>,
+    literals: Vec<TypeId>,
     indexes: Vec<LiteralIndex>,
     fronts: Vec<Front>,
     pub ghost bound: { ranks ≡ max (greatest type_ranks.items) (greatest group_ranks.items) },
     pub ghost ranked: { IsRanked (language_in types.items groups.items) (rank_in type_ranks.items group_ranks.items) ranks },
     pub ghost shown: { AreShown types.items told.items } by { are_shown_once types.items told.items },
+    pub ghost valued: { AreLiterals types.items literals.items } by { are_literals_once types.items literals.items },
     pub ghost indexed: { AreIndexed types.items indexes.items } by { are_indexed_once types.items indexes.items },
     pub ghost begun: { AreFronts types.items fronts.items } by { are_fronts_once types.items fronts.items },
 }
@@ -80,6 +83,7 @@ impl Table {
         } = ranks;
         let most = greatest(&type_ranks).max(greatest(&group_ranks));
         let told = Vec::new(*types.allocator());
+        let literals = Vec::new(*types.allocator());
         let indexes = Vec::new(*types.allocator());
         let fronts = Vec::new(*types.allocator());
         Ok(Table {
@@ -90,13 +94,14 @@ impl Table {
             group_ranks,
             ranks: most,
             told,
+            literals,
             indexes,
             fronts,
         })
     }
 
-    /// The same table, which keeps what each type says by the major type alone, as far as forms show it. It takes 32 bytes and
-    /// the same time for each type, and time for each of its parts.
+    /// The same table, which keeps what each type says by the major type alone, as far as forms show it, and the one value that it is
+    /// known to be. It takes 40 bytes and the same time for each type, and time for each of its parts.
     pub fn with_told(self, alloc: Global) -> Result<Table, AllocError>
         ensures language { IfOk result (λ table. language_of table ≡ language_of self) }
         ensures root { IfOk result (λ table. root_of table ≡ root_of self) }
@@ -116,6 +121,7 @@ impl Table {
             ..
         } = self;
         let told = told_of(alloc, &types)?;
+        let literals = literals_of(alloc, &types)?;
         Ok(Table {
             types,
             groups,
@@ -124,6 +130,7 @@ impl Table {
             group_ranks,
             ranks,
             told,
+            literals,
             indexes,
             fronts,
         })
@@ -146,6 +153,7 @@ impl Table {
             group_ranks,
             ranks,
             told,
+            literals,
             ..
         } = self;
         let indexes = indexes_of(alloc, &types)?;
@@ -158,6 +166,7 @@ impl Table {
             group_ranks,
             ranks,
             told,
+            literals,
             indexes,
             fronts,
         })
@@ -251,11 +260,11 @@ impl Table {
 
     /// The one value that a type is known to be by its form: a value, or what a name or a choice of one stands for, through 16 of
     /// these at most.
-    #[inline]
+    #[inline(always)]
     pub fn literal_of(&self, id: TypeId) -> Option<&Item>
         ensures { MatchOption result (key_in (language_of self.now).type_at most_forms id ≡ None) (λ literal. key_in (language_of self.now).type_at most_forms id ≡ Some (view literal.now)) }
     {
-        literal_in(&self.types, id)
+        literal_at(&self.types, &self.literals, id)
     }
 
     /// The group of this number, if it is there.

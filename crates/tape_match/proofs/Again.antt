@@ -1,30 +1,26 @@
 -- Pairs that belong to the first entries of an alternative belong to the same ones in each alternative that begins with these.
-use Rattle.std.proofs.Common.{◌≡◌, ℕ, zero, suc, ◌+◌, ◌-◌, ◌<◌, ◌≤◌, ◌⊎◌, inl, inr, nat_eq, List, [], ◌∷◌, length, get_or, take, drop, Bool, true, false, cond, ⊎_elim, refl, sym, ap, ◌∙◌, subst, arith}
+use Rattle.std.proofs.Common.{◌≡◌, ℕ, zero, suc, ◌+◌, ◌-◌, ◌<◌, ◌≤◌, ◌⊎◌, inl, inr, nat_eq, List, [], ◌∷◌, length, get_or, drop, Bool, true, false, cond, ⊎_elim, refl, sym, ap, ◌∙◌, subst, arith}
 use Rattle.std.proofs.lemmas.Bool.Decides.{nat_tests}
 use Rattle.lists.proofs.Lemmas.{before_or_not}
-use Rattle.cbor_data.specs.Value.{Value, Pairs, pair}
-use Rattle.cddl_meaning.specs.Forms.{Language, MapEntry, pair_cost}
-use Rattle.cddl_meaning.specs.Judges.{Yes, No, Fate, BelongsTo, Stray, count_of, Sorts, all_sorted, sort, Belongs, nowhere, passed_over, asked, BelongsAsked, other_key, here, cut_here, handed_on}
-use Rattle.table_nodes.specs.Fronts.{BeginAlike}
-use Rattle.tape_match.specs.Says.{AreFates, PairsSorted, is_fallen}
+use Rattle.cbor_data.specs.Value.{Value, Pairs, pair, place_count}
+use Rattle.cddl_meaning.specs.Forms.{Language, MapEntry, is_passed_over, pair_cost}
+use Rattle.cddl_meaning.specs.Judges.{Says, Yes, No, Fate, BelongsTo, Stray, count_of, Sorts, all_sorted, sort, Belongs, nowhere, passed_over, asked, BelongsAsked, other_key, here, cut_here, handed_on}
+use Rattle.tape_match.specs.Says.{AreFates, AskTheSame, BeginSame, PairTaken, PairsSorted, is_fallen}
 
--- The alternatives begin with the same entries, after which each has its own.
+-- The alternatives begin with entries that ask the same, after which each has its own.
 data BeginBoth {N : Type 0} (own its : List (MapEntry N)) : List (MapEntry N) → List (MapEntry N) → Type 0 where
   behind : BeginBoth own its own its
-  same : {e : MapEntry N} {es fs : List (MapEntry N)} → BeginBoth own its es fs → BeginBoth own its (e ∷ es) (e ∷ fs)
+  same : {e f : MapEntry N} {es fs : List (MapEntry N)} → AskTheSame e f → BeginBoth own its es fs → BeginBoth own its (e ∷ es) (f ∷ fs)
 
-both_begin : {N : Type 0} (n : ℕ) (es fs : List (MapEntry N)) → n ≤ length es → n ≤ length fs → take n es ≡ take n fs → BeginBoth (drop n es) (drop n fs) es fs
-both_begin zero es fs h i e = behind
-both_begin (suc n) [] fs h i e = absurd (omega (arith, h))
-both_begin (suc n) (a ∷ es) [] h i e = absurd (omega (arith, i))
-both_begin (suc n) (a ∷ es) (b ∷ fs) h i e =
-    let f : a ≡ b = cc e in
-    let g : take n es ≡ take n fs = cc e in
-    subst (λ c. BeginBoth (drop n es) (drop n fs) (a ∷ es) (c ∷ fs)) f (same (both_begin n es fs (omega (arith, h)) (omega (arith, i)) g))
+both_begin : {N : Type 0} (n : ℕ) (es fs : List (MapEntry N)) → BeginSame n es fs → BeginBoth (drop n es) (drop n fs) es fs
+both_begin zero es fs b = behind
+both_begin (suc n) [] fs b = absurd (omega (arith, b.some))
+both_begin (suc n) (a ∷ es) [] b = absurd (omega (arith, b.others))
+both_begin (suc n) (a ∷ es) (c ∷ fs) b = same (b.same 0 a c (omega arith) refl refl) (both_begin n es fs (record { some = omega (arith, b.some); others = omega (arith, b.others); same = λ i e f less is at. b.same (suc i) e f (omega (arith, less)) is at }))
 
 as_far : {N : Type 0} {own its es fs : List (MapEntry N)} → BeginBoth own its es fs → (length own ≤ length es) × (length es + length its ≡ length fs + length own)
 as_far behind = (omega arith, omega arith)
-as_far (same b) = let h = as_far b in (omega (arith, h.0), omega (arith, h.1))
+as_far (same a b) = let h = as_far b in (omega (arith, h.0), omega (arith, h.1))
 
 -- a pair belongs to an entry with so many after it, or with more, and its value is as this says
 abbrev InFront : ℕ → Fate → Type 0
@@ -75,17 +71,17 @@ module _ {N G : Type 0} (l : Language N G) where
   mutual
     belongs_again : {own its es fs : List (MapEntry N)} {q w : ℕ} {k x : Value} {f : Fate} → Belongs l es q k x f w → BeginBoth own its es fs → InFront (length own) f → Belongs l fs q k x (moved (length own) (length its) f) w
     belongs_again {own = own} {f = f} b behind h = absurd (not_both f (length own) h (belongs_inside b))
-    belongs_again (passed_over i b) (same r) h = passed_over i (belongs_again b r h)
-    belongs_again (asked i b) (same r) h = asked i (asked_again b r h)
+    belongs_again {k = k} (passed_over i b) (same a r) h = passed_over (subst (λ n. is_passed_over l.counting n k ≡ true) a.key i) (belongs_again b r h)
+    belongs_again {k = k} (asked i b) (same a r) h = asked (subst (λ n. is_passed_over l.counting n k ≡ false) a.key i) (asked_again b a r h)
 
-    asked_again : {own its es fs : List (MapEntry N)} {e : MapEntry N} {q w : ℕ} {k x : Value} {f : Fate} → BelongsAsked l e es q k x f w → BeginBoth own its es fs → InFront (length own) f → BelongsAsked l e fs q k x (moved (length own) (length its) f) w
-    asked_again (other_key d b) r h = other_key d (belongs_again b r h)
-    asked_again {own = own} {its = its} {es = es} {fs = fs} {e = e} {q = q} {k = k} {x = x} (here {v = v} {w = w} d b) r h =
+    asked_again : {own its es fs : List (MapEntry N)} {e g : MapEntry N} {q w : ℕ} {k x : Value} {f : Fate} → BelongsAsked l e es q k x f w → AskTheSame e g → BeginBoth own its es fs → InFront (length own) f → BelongsAsked l g fs q k x (moved (length own) (length its) f) w
+    asked_again {q = q} {k = k} (other_key {far = far} {v = v} d b) a r h = other_key (subst (λ n. Says l (l.type_at n) q k (No far) v) a.key d) (belongs_again b r h)
+    asked_again {own = own} {its = its} {es = es} {fs = fs} {g = g} {q = q} {k = k} {x = x} (here {v = v} {w = w} d b) a r h =
         let far = as_far r in
         let at : length fs ≡ length es - length own + length its = omega (arith, far.0, far.1) in
-        subst (λ n. BelongsAsked l e fs q k x (BelongsTo n Yes) (v + w)) at (here d b)
-    asked_again (cut_here c d b) r h = absurd h
-    asked_again (handed_on c d b t) r h = handed_on c d b (belongs_again t r h)
+        subst (λ n. BelongsAsked l g fs q k x (BelongsTo n Yes) (v + w)) at (here (subst (λ n. Says l (l.type_at n) q k Yes v) a.key d) (subst (λ n. Says l (l.type_at n) (q + place_count k) x Yes w) a.value b))
+    asked_again (cut_here c d b) a r h = absurd h
+    asked_again {q = q} {k = k} {x = x} (handed_on {far = far} {u = u} {v = v} c d b t) a r h = handed_on (sym a.cuts ∙ c) (subst (λ n. Says l (l.type_at n) q k Yes u) a.key d) (subst (λ n. Says l (l.type_at n) (q + place_count k) x (No far) v) a.value b) (belongs_again t r h)
 
   sorts_again : {own its es fs : List (MapEntry N)} {q w : ℕ} {ps : Pairs} {gs : List Fate} → ((m n : ℕ) → pair_cost l.counting m ≡ pair_cost l.counting n) → Sorts l es q ps gs w → BeginBoth own its es fs → AreInFront (length own) gs → Sorts l fs q ps (all_moved (length own) (length its) gs) w
   sorts_again cost all_sorted r h = all_sorted
@@ -142,7 +138,7 @@ none_again d c n (BelongsTo m (No far) ∷ fs) less h = absurd h.0
 none_again d c n (Stray q ∷ fs) less h = absurd h.0
 
 -- Pairs that belong to the first entries, so many, of an alternative, are sorted so to each that begins with these.
-pub sorted_again : {N G : Type 0} (l : Language N G) (reach : ℕ) (es fs : List (MapEntry N)) (ps : Pairs) (counts : List ℕ) (k : ℕ) → ((m n : ℕ) → pair_cost l.counting m ≡ pair_cost l.counting n) → reach ≤ length es → ((i : ℕ) → reach ≤ i → get_or counts i 0 ≡ 0) → BeginAlike reach es fs → PairsSorted l es ps counts false k → PairsSorted l fs ps counts false k
+pub sorted_again : {N G : Type 0} (l : Language N G) (reach : ℕ) (es fs : List (MapEntry N)) (ps : Pairs) (counts : List ℕ) (k : ℕ) → ((m n : ℕ) → pair_cost l.counting m ≡ pair_cost l.counting n) → reach ≤ length es → ((i : ℕ) → reach ≤ i → get_or counts i 0 ≡ 0) → BeginSame reach es fs → PairsSorted l es ps counts false k → PairsSorted l fs ps counts false k
 sorted_again l reach es fs ps counts k cost within none alike s q = (all_moved d c gs, (not_fallen_again d c gs a.0, counted), sorts_again l cost (s q).2 both front)
   where
     gs : List Fate
@@ -158,7 +154,7 @@ sorted_again l reach es fs ps counts k cost within none alike s q = (all_moved d
     c = length (drop reach fs)
 
     both : BeginBoth (drop reach es) (drop reach fs) es fs
-    both = both_begin reach es fs within alike.0 alike.1
+    both = both_begin reach es fs alike
 
     mine : length es ≡ reach + d
     mine = parts es reach within
@@ -181,3 +177,18 @@ sorted_again l reach es fs ps counts k cost within none alike s q = (all_moved d
         at_least h =
             let is : n ≡ (n - c) + c = omega (arith, h) in
             ap (λ m. count_of m (all_moved d c gs)) is ∙ (counted_again d c (n - c) gs front ∙ a.1 ((n - c) + d) i (omega (arith, h, e, others, mine)))
+
+-- A pair that belongs to one of the first entries, so many, of an alternative, belongs to the same one in each that begins with entries that ask the same.
+pub taken_again : {N G : Type 0} (l : Language N G) (n number : ℕ) (es fs : List (MapEntry N)) (k x : Value) (w : ℕ) → BeginSame n es fs → number < n → PairTaken l es k x (length es - 1 - number) w → PairTaken l fs k x (length fs - 1 - number) w
+taken_again l n number es fs k x w b less h q =
+    let both = both_begin n es fs b in
+    let far = as_far both in
+    let own = split n es b.some in
+    let its = split n fs b.others in
+    let at : (length es - 1 - number) - length (drop n es) + length (drop n fs) ≡ length fs - 1 - number = omega (arith, own, its, less) in
+    subst (λ m. Belongs l fs q k x (BelongsTo m Yes) w) at (belongs_again l (h q) both (omega (arith, own, less)))
+  where
+    split : {A : Type 0} (m : ℕ) (xs : List A) → m ≤ length xs → length xs ≡ m + length (drop m xs)
+    split zero xs h = omega arith
+    split (suc m) [] h = absurd (omega (arith, h))
+    split (suc m) (x ∷ xs) h = omega (arith, split m xs (omega (arith, h)))

@@ -1,11 +1,11 @@
 -- What is told of items on a tape.
-use Rattle.std.proofs.Common.{◌≡◌, ◌≢◌, Bool, true, false, ◌||◌, Option, Some, None, IfSome, not, ℕ, zero, suc, get_or, set, replicate, ◌+◌, ◌<◌, ◌≤◌, ⊎_elim, List, [], ◌∷◌, ◌&&◌, length, take, drop, slice_get, slice_index_or, Vec, Global, refl, sym, ap, ap₂, ◌∙◌, subst, arith}
-use Rattle.lists.proofs.Lemmas.{before_or_not}
+use Rattle.std.proofs.Common.{◌≡◌, ◌≢◌, ◌-◌, Bool, true, false, ◌||◌, Option, Some, None, IfSome, not, ℕ, zero, suc, get_or, set, replicate, ◌+◌, ◌<◌, ◌≤◌, ⊎_elim, List, [], ◌∷◌, ◌&&◌, length, take, drop, slice_get, slice_index_or, Vec, Global, refl, sym, ap, ap₂, ◌∙◌, subst, arith}
+use Rattle.lists.proofs.Lemmas.{before_or_not, same_some}
 use Rattle.cbor_data.specs.Embedded.{Embeds}
 use Rattle.cbor_data.specs.Forms.{Spells}
 use Rattle.cbor_data.specs.Same.{same_value}
 use Rattle.cbor_data.specs.Value.{Value, uint, nint, bytes, text, array, pairs, tag, simple, float, Pairs, pair, Values, no_values}
-use Rattle.cbor_tape.specs.Places.{IsAt, AreAt, IsFirstOf, IsSeen, major_type}
+use Rattle.cbor_tape.specs.Places.{AreAt, IsFirstOf, major_type}
 use Rattle.cbor_tape.specs.Tape.{IsWholeTape}
 use Rattle.cbor_tape.specs.declared.entry.Entry.{Entry}
 use Rattle.cbor_tape.specs.declared.places.Seen.{Seen}
@@ -15,24 +15,25 @@ use Rattle.cddl_meaning.specs.Forms.{Language, Test, are_bits_among, bits_asked,
 use Rattle.table_nodes.specs.declared.nodes.GroupId.{GroupId}
 use Rattle.table_nodes.specs.declared.nodes.TypeId.{TypeId}
 use Rattle.table_nodes.specs.Majors.{TellsOf}
-use Rattle.std.proofs.lemmas.List.{take-take}
 use Rattle.std.proofs.lemmas.Option.{slice_get-map, slice_get_within}
 use Rattle.std.specs.Prelude.{option_map}
 use Rattle.table_nodes.specs.Fronts.{BeginAlike}
 use Rattle.table_nodes.specs.Nodes.{alternatives_view, entries_view}
 use Rattle.table_nodes.specs.declared.nodes.MapEntry.{MapEntry}
-use Rattle.tape_match.specs.Says.{DoesAs, EntriesCome, FormSays, GroupFails, GroupTakes, IsMeant, PairFails, PairsCome, PairsSorted, PairTaken, SaysAs, WaySays, IsLacking, are_enough_from, is_enough}
-use Rattle.tape_match.specs.Told.{AreSorted, IsAsked, IsEntryTold, IsFormTold, IsGroupTold, IsHeldTold, IsKnown, IsLiteralKnown, IsRest, IsSorting, more_done, more_told, one_more, one_more_done}
+use Rattle.tape_match.specs.Says.{AskTheSame, BeginSame, DoesAs, EntriesCome, FormSays, GroupFails, GroupTakes, IsMeant, PairFails, PairsCome, PairsSorted, PairTaken, SaysAs, WaySays, IsLacking, are_enough_from, is_enough}
+use Rattle.tape_match.specs.Told.{AreMet, AreSorted, IsAsked, IsEntryTold, IsFormTold, IsGroupTold, IsHeldTold, IsKnown, IsLiteralKnown, IsMet, IsNextOf, IsOfCost, IsPairToldAt, IsRest, IsSorting, more_done, more_told, one_more, one_more_done}
 use Rattle.tape_match.specs.declared.told.Tells.{Tells}
 use Rattle.tape_match.specs.declared.told.Tells.TheVariants as T
 use Rattle.tape_match.specs.declared.told.Does.{Does}
 use Rattle.tape_match.specs.declared.told.Does.TheVariants as D
 use Rattle.tape_match.specs.declared.told.Known.{Known}
 use Rattle.tape_match.specs.declared.told.Known.TheVariants as K
+use Rattle.tape_match.specs.declared.before.MetPair.{MetPair}
+use Rattle.tape_match.specs.declared.told.Meets.TheVariants as M
 use Rattle.tape_match.specs.declared.told.Met.TheVariants as H
 use Rattle.tape_match.specs.declared.told.Sorted.{Sorted}
 use Rattle.tape_match.proofs.Says.{entry_fails, entry_hands_on, entry_missing, entry_other, entry_takes, is_meant, pair_beside, pair_counted, pair_cut, pair_taken, plain_says, ref_fails, ref_says, ref_takes, tagged_says, way_falls, way_says}
-use Rattle.tape_match.proofs.Again.{sorted_again}
+use Rattle.tape_match.proofs.Again.{sorted_again, taken_again}
 
 -- the major type is the one that tables know
 pub same_major : (x : Value) → major_of x ≡ major_type x
@@ -95,15 +96,22 @@ pub no_bits : (s : List ℕ) (rs : List (ℕ × ℕ)) → are_bits_among rs (bit
 unfolding bits_set
 no_bits s rs = refl
 
--- a pair passes over an entry for another literal than its key
-pub passed_by : (known : Option Value) (v : Value) (s : Seen) (r : Option Bool) → known ≡ Some v → IfSome r (λ other. (t : Taped) (x : Value) → IsSeen t x s → not (same_value x v) ≡ other) → IfSome r (λ passed. (t : Taped) (x : Value) → IsSeen t x s → is_other known x ≡ passed)
-passed_by known v s None e h = tt
-passed_by known v s (Some b) e h = λ t x seen. ap (λ o. is_other o x) e ∙ h t x seen
+-- the value of a key through names
 
--- a test of the item at a place that asks about no bits
-pub tested_by : (t : Taped) (place : ℕ) (test : Test) (s : Seen) (r : Option Bool) → ((x : Value) → IsAt t place x → IsSeen t x s) → ((x : Value) → bits_asked test x ≡ 0) → IfSome r (λ says. (u : Taped) (x : Value) → IsSeen u x s → passes test x ≡ says) → IfSome r (λ says. (x : Value) → IsAt t place x → (passes test x ≡ says) × (bits_asked test x ≡ 0))
-tested_by t place test s None seen none h = tt
-tested_by t place test s (Some b) seen none h = λ x on. (h t x (seen x on), none x)
+pub literal_shown : (type_at : TypeId → F.Node TypeId GroupId) (k : ℕ) (n : TypeId) (v : Value) → type_at n ≡ F.Plain (F.equals v) → F.key_in type_at k n ≡ Some v
+unfolding F.key_in
+literal_shown type_at zero n v e = rw e refl
+literal_shown type_at (suc k) n v e = rw e refl
+
+pub name_shown : (type_at : TypeId → F.Node TypeId GroupId) (k : ℕ) (n m : TypeId) (v : Value) → ((next : TypeId → Option Value) → F.key_by next (type_at n) ≡ next m) → F.key_in type_at k m ≡ Some v → F.key_in type_at (suc k) n ≡ Some v
+unfolding F.key_in
+name_shown type_at k n m v h e = h (λ o. F.key_in type_at k o) ∙ e
+
+pub names_shown : (type_at : TypeId → F.Node TypeId GroupId) (n m : TypeId) (k : ℕ) (v : Value) → k ≤ 16 → ((j : ℕ) (u : Value) → j + k ≤ 16 → F.key_in type_at j m ≡ Some u → F.key_in type_at (j + k) n ≡ Some u) → type_at m ≡ F.Plain (F.equals v) → F.key_in type_at F.most_forms n ≡ Some v
+unfolding F.most_forms
+names_shown type_at n m k v few h e =
+    let all : (16 - k) + k ≡ 16 = omega (arith, few) in
+    subst (λ (j : ℕ). F.key_in type_at j n ≡ Some v) all (h (16 - k) v (omega (arith, few)) (literal_shown type_at (16 - k) m v e))
 
 -- what is known of a key and of an entry whose key type is a literal
 
@@ -116,13 +124,16 @@ the_same true e = refl
 the_same false e = sym e
 
 pub literal_key : (type_at : TypeId → F.Node TypeId GroupId) (n : TypeId) (v : Value) → type_at n ≡ F.Plain (F.equals v) → F.key_in type_at F.most_forms n ≡ Some v
-unfolding F.key_in F.most_forms
-literal_key type_at n v e = rw e refl
+literal_key type_at n v e = literal_shown type_at F.most_forms n v e
 
-pub known_by : (l : Language TypeId GroupId) (e : F.MapEntry TypeId) (v : Value) (s : Seen) (r : Known) → ((x : Value) → F.is_passed_over l.counting e.key_type x ≡ is_other (Some v) x) → l.type_at e.key_type ≡ F.Plain (F.equals v) → IsLiteralKnown v s r → IsKnown l e s r
-known_by l e v s K.Other passed is h = λ t x seen. passed x ∙ ap not (h t x seen)
-known_by l e v s (K.Asked same) passed is h = λ t x seen. (passed x ∙ ap not (h t x seen), λ f. subst (λ n. FormSays l n x true 1) (sym is) (plain_says l (F.equals v) x true (h t x seen)))
-known_by l e v s K.Nothing passed is h = tt
+pub known_by : (l : Language TypeId GroupId) (e : F.MapEntry TypeId) (v : Value) (s : Seen) (cost : ℕ) (r : Known) → ((x : Value) → F.is_passed_over l.counting e.key_type x ≡ is_other (Some v) x) → ((x : Value) → same_value x v ≡ true → FormSays l (l.type_at e.key_type) x true cost) → IsOfCost cost r → IsLiteralKnown v s r → IsKnown l e s r
+known_by l e v s cost K.Other passed says of h = λ t x seen. passed x ∙ ap not (h t x seen)
+known_by l e v s cost (K.Asked w) passed says of h = λ t x seen. (passed x ∙ ap not (h t x seen), λ some. subst (λ (k : ℕ). FormSays l (l.type_at e.key_type) x true k) (sym of) (says x (h t x seen)))
+known_by l e v s cost K.Nothing passed says of h = tt
+
+-- a literal says yes to what is the same
+pub literal_says : (l : Language TypeId GroupId) (f : F.Node TypeId GroupId) (v x : Value) → f ≡ F.Plain (F.equals v) → same_value x v ≡ true → FormSays l f x true 1
+literal_says l f v x is e = subst (λ g. FormSays l g x true 1) (sym is) (plain_says l (F.equals v) x true e)
 
 -- some judgements more
 
@@ -211,6 +222,39 @@ get_alike (suc n) i (x ∷ xs) [] e h = let never : x ∷ take n xs ≡ [] = e i
 get_alike (suc n) zero (x ∷ xs) (y ∷ ys) e h = let same : x ≡ y = cc e in ap Some same
 get_alike (suc n) (suc i) (x ∷ xs) (y ∷ ys) e h = let same : take n xs ≡ take n ys = cc e in get_alike n i xs ys same (omega (arith, h))
 
+-- what is the same asks the same
+pub alike_same : {N : Type 0} (n : ℕ) (es fs : List (F.MapEntry N)) → BeginAlike n es fs → BeginSame n es fs
+alike_same {N = N} n es fs b = record {
+  some = within n es fs b.0 b.1;
+  others = b.0;
+  same = λ i e f less is at.
+      let one : Some e ≡ Some f = sym is ∙ (get_alike n i es fs b.1 less ∙ at) in
+      subst (λ d. AskTheSame e d) (same_some one) (record { key = refl; value = refl; cuts = refl });
+}
+  where
+    within : {A : Type 0} (m : ℕ) (xs ys : List A) → m ≤ length ys → take m xs ≡ take m ys → m ≤ length xs
+    within zero xs ys h e = omega arith
+    within (suc m) [] [] h e = h
+    within (suc m) [] (y ∷ ys) h e = let never : [] ≡ y ∷ take m ys = e in absurd (cc)
+    within (suc m) (x ∷ xs) [] h e = absurd (omega (arith, h))
+    within (suc m) (x ∷ xs) (y ∷ ys) h e = let others : take m xs ≡ take m ys = cc e in omega (arith, within m xs ys (omega (arith, h)) others)
+
+pub fewer_same : {N : Type 0} (m n : ℕ) (es fs : List (F.MapEntry N)) → m ≤ n → BeginSame n es fs → BeginSame m es fs
+fewer_same m n es fs h b = record { some = omega (arith, h, b.some); others = omega (arith, h, b.others); same = λ i e f less is at. b.same i e f (omega (arith, less, h)) is at }
+
+pub one_more_same : {N : Type 0} (n : ℕ) (es fs : List (F.MapEntry N)) (e f : F.MapEntry N) → slice_get es n ≡ Some e → slice_get fs n ≡ Some f → AskTheSame e f → BeginSame n es fs → BeginSame (n + 1) es fs
+one_more_same {N = N} n es fs e f is at a b = record {
+  some = omega (arith, slice_get_within es n e is);
+  others = omega (arith, slice_get_within fs n f at);
+  same = λ i d g less here there. ⊎_elim (λ (before : i < n). b.same i d g before here there) (λ (up : n ≤ i). last i d g (omega (arith, up, less)) here there) (before_or_not i n);
+}
+  where
+    last : (i : ℕ) (d g : F.MapEntry N) → i ≡ n → slice_get es i ≡ Some d → slice_get fs i ≡ Some g → AskTheSame d g
+    last i d g e here there =
+        let one = same_some (sym is ∙ (ap (λ (k : ℕ). slice_get es k) (sym e) ∙ here)) in
+        let two = same_some (sym at ∙ (ap (λ (k : ℕ). slice_get fs k) (sym e) ∙ there)) in
+        subst (λ y. AskTheSame d y) two (subst (λ y. AskTheSame y f) one a)
+
 -- The first entry that lacks pairs is one with which both alternatives begin.
 pub lacks_again : {N : Type 0} (front lacks : ℕ) (es fs : List (F.MapEntry N)) (counts : List ℕ) → BeginAlike front es fs → lacks < front → IsLacking es counts 0 lacks → IsLacking fs counts 0 lacks
 lacks_again front lacks es fs counts b less h = (
@@ -251,11 +295,8 @@ lacking_by es counts lacks less h = at es lacks less (λ e is. let up : lacks �
     at (x ∷ xs) zero less k = k x refl
     at (x ∷ xs) (suc i) less k = at xs i (omega (arith, less)) k
 
-pub shorter : {A : Type 0} (m n : ℕ) (xs ys : List A) → m ≤ n → BeginAlike n xs ys → BeginAlike m xs ys
-shorter m n xs ys h b = (omega (arith, h, b.0), sym (take-take m n xs h) ∙ ap (take m) b.1 ∙ take-take m n ys h)
-
 -- Pairs that were sorted to the entries of an alternative are so to those of one that begins with these, where another entry is the first that lacks any.
-pub sorting_again : (l : Language TypeId GroupId) (es fs : List (F.MapEntry TypeId)) (ps : Pairs) (s : Sorted) (lacks : ℕ) → ((m n : ℕ) → F.pair_cost l.counting m ≡ F.pair_cost l.counting n) → s.fallen ≡ false → BeginAlike s.reach es fs → (IsLacking es s.counts 0 s.lacks → IsLacking fs s.counts 0 lacks) → AreSorted l es ps s → AreSorted l fs ps (record { asked = s.asked; fallen = s.fallen; reach = s.reach; lacks = lacks; counts = s.counts })
+pub sorting_again : (l : Language TypeId GroupId) (es fs : List (F.MapEntry TypeId)) (ps : Pairs) (s : Sorted) (lacks : ℕ) → ((m n : ℕ) → F.pair_cost l.counting m ≡ F.pair_cost l.counting n) → s.fallen ≡ false → BeginSame s.reach es fs → (IsLacking es s.counts 0 s.lacks → IsLacking fs s.counts 0 lacks) → AreSorted l es ps s → AreSorted l fs ps (record { asked = s.asked; fallen = s.fallen; reach = s.reach; lacks = lacks; counts = s.counts })
 sorting_again l es fs ps s lacks cost fallen alike lack h = by s.asked h
   where
     r : Sorted
@@ -263,7 +304,7 @@ sorting_again l es fs ps s lacks cost fallen alike lack h = by s.asked h
 
     again : (k : ℕ) → IsSorting l es ps s k → IsSorting l fs ps r k
     again k a = record {
-      within = alike.0;
+      within = alike.others;
       none = a.none;
       lacking = λ e. lack (a.lacking fallen);
       sorted = subst (λ b. PairsSorted l fs ps s.counts b k) (sym fallen) (sorted_again l s.reach es fs ps s.counts k cost a.within a.none alike (subst (λ b. PairsSorted l es ps s.counts b k) fallen a.sorted));
@@ -315,3 +356,21 @@ module _ (l : Language TypeId GroupId) (f : F.Node TypeId GroupId) (b : List ℕ
   held_told (T.Yes w) says = (h.value, embeds, says)
   held_told (T.No w) says = (h.value, embeds, says)
   held_told T.Nothing says = says
+
+-- what is kept of pairs
+
+pub no_more_met : (l : Language TypeId GroupId) (ws : List (List (F.MapEntry TypeId))) (t : Taped) → AreMet l ws t []
+no_more_met l ws t i o e = let never : None ≡ Some o = e in absurd (cc)
+
+pub one_more_met : (l : Language TypeId GroupId) (ws : List (List (F.MapEntry TypeId))) (t : Taped) (ms : List (Option MetPair)) (n : ℕ) (m : Option MetPair) → IsMet l ws t m → AreMet l ws t ms → AreMet l ws t (set ms n m)
+one_more_met l ws t [] n m is h i o e = h i o e
+one_more_met l ws t (p ∷ ms) zero m is h zero o e = let one : m ≡ o = same_some e in subst (λ q. IsMet l ws t q) one is
+one_more_met l ws t (p ∷ ms) zero m is h (suc i) o e = h (suc i) o e
+one_more_met l ws t (p ∷ ms) (suc n) m is h zero o e = h zero o e
+one_more_met l ws t (p ∷ ms) (suc n) m is h (suc i) o e = one_more_met l ws t ms n m is (λ j q f. h (suc j) q f) i o e
+
+-- What is kept of a pair is right in the next alternative, if it belongs to an entry that asks the same there.
+pub met_again : (l : Language TypeId GroupId) (ws : List (List (F.MapEntry TypeId))) (t : Taped) (way same : ℕ) (es : List (F.MapEntry TypeId)) (m : MetPair) → IsNextOf ws way same es → m.way ≡ way - 1 → m.number < same → IsMet l ws t (Some m) → IsPairToldAt l es t m.key m.held (M.Takes (length es - 1 - m.number) m.asked)
+met_again l ws t way same es m next at less h k x kon xon =
+    let there : slice_get ws m.way ≡ Some next.before = ap (λ (i : ℕ). slice_get ws i) at ∙ next.there in
+    taken_again l same m.number next.before es k x m.asked next.alike less (h next.before there k x kon xon)

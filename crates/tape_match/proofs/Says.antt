@@ -92,9 +92,9 @@ module _ {N G : Type 0} (l : Language N G) where
       differ k n e same = grind (arith, nat_tests)
   not_meant (such_as o) m n y e = absurd e
 
-  pub such_says : (m : N) (t : Test) (x : Value) (says : Bool) (w : ℕ) → FormSays l (l.type_at m) x true w → passes t x ≡ says → bits_asked t x ≡ 0 → FormSays l (Such m t) x says (1 + w)
-  such_says m t x true w h e none = λ p. says_up (Such m t) p x Yes w (subst (λ j. Says l (Such m t) p x Yes (suc j)) (ap (λ b. w + b) none ∙ no_more_of w) (such_passed (h p) e))
-  such_says m t x false w h e none = λ p. (p, says_up (Such m t) p x (No p) w (subst (λ j. Says l (Such m t) p x (No p) (suc j)) (ap (λ b. w + b) none ∙ no_more_of w) (such_missed (h p) e)))
+  pub such_says : (m : N) (t : Test) (x : Value) (says : Bool) (w b : ℕ) → FormSays l (l.type_at m) x true w → passes t x ≡ says → bits_asked t x ≡ b → FormSays l (Such m t) x says (1 + (w + b))
+  such_says m t x true w b h e many = λ p. says_up (Such m t) p x Yes (w + b) (subst (λ j. Says l (Such m t) p x Yes (suc (w + j))) many (such_passed (h p) e))
+  such_says m t x false w b h e many = λ p. (p, says_up (Such m t) p x (No p) (w + b) (subst (λ j. Says l (Such m t) p x (No p) (suc (w + j))) many (such_missed (h p) e)))
 
   pub none_such_says : (m : N) (t : Test) (x : Value) (w : ℕ) → FormSays l (l.type_at m) x false w → FormSays l (Such m t) x false (1 + w)
   none_such_says m t x w h p = ((h p).0, says_up (Such m t) p x (No (h p).0) w (none_such (h p).1))

@@ -28,6 +28,18 @@ abbrev pub AreFates : (fallen : Bool) → (entries : ℕ) → (counts : List ℕ
 AreFates true entries counts fs = is_fallen fs ≡ true
 AreFates false entries counts fs = (is_fallen fs ≡ false) × ((n i : ℕ) → i + suc n ≡ entries → count_of n fs ≡ get_or counts i 0)
 
+-- Two entries ask the same of a pair, however many pairs they ask for.
+pub record AskTheSame {N : Type 0} (e f : MapEntry N) : Type 0 where
+  pub key : e.key_type ≡ f.key_type
+  pub value : e.value_type ≡ f.value_type
+  pub cuts : e.cuts ≡ f.cuts
+
+-- The first entries, so many, ask the same.
+pub record BeginSame {N : Type 0} (n : ℕ) (es fs : List (MapEntry N)) : Type 0 where
+  pub some : n ≤ length es
+  pub others : n ≤ length fs
+  pub same : (i : ℕ) (e f : MapEntry N) → i < n → slice_get es i ≡ Some e → slice_get fs i ≡ Some f → AskTheSame e f
+
 -- so many pairs may belong to an entry
 abbrev pub is_enough : {N : Type 0} → MapEntry N → ℕ → Bool
 is_enough e n = nat_le e.least n && is_up_to_most n e.most

@@ -1,5 +1,5 @@
 -- What is told of items on a tape.
-use Rattle.std.specs.Prelude.{◌≡◌, ◌⊎◌, ℕ, ◌+◌, ◌<◌, ◌≤◌, List, length, get_or, Bool, true, false, IfSome}
+use Rattle.std.specs.Prelude.{◌≡◌, ◌⊎◌, ℕ, ◌+◌, ◌-◌, ◌<◌, ◌≤◌, List, length, get_or, slice_get, Bool, true, false, Option, Some, None, IfSome}
 use Rattle.cbor_data.specs.Embedded.{Embeds}
 use Rattle.cbor_data.specs.Value.{Value, Values, Pairs}
 use Rattle.cbor_data.specs.Same.{same_value}
@@ -10,7 +10,7 @@ use Rattle.cddl_meaning.specs.Forms as F
 use Rattle.cddl_meaning.specs.Forms.{Language, list_of}
 use Rattle.table_nodes.specs.declared.nodes.GroupId.{GroupId}
 use Rattle.table_nodes.specs.declared.nodes.TypeId.{TypeId}
-use Rattle.tape_match.specs.Says.{FormSays, IsLacking, GroupTakes, GroupFails, PairTaken, PairFails, PairsSorted, WaySays}
+use Rattle.tape_match.specs.Says.{BeginSame, FormSays, IsLacking, GroupTakes, GroupFails, PairTaken, PairFails, PairsSorted, WaySays}
 use Rattle.tape_match.specs.declared.told.Tells.{Tells}
 use Rattle.tape_match.specs.declared.told.Tells.TheVariants as T
 use Rattle.tape_match.specs.declared.told.Does.{Does}
@@ -20,6 +20,7 @@ use Rattle.tape_match.specs.declared.told.Meets.TheVariants as M
 use Rattle.tape_match.specs.declared.told.Known.{Known}
 use Rattle.tape_match.specs.declared.told.Known.TheVariants as K
 use Rattle.tape_match.specs.declared.told.Sorted.{Sorted}
+use Rattle.tape_match.specs.declared.before.MetPair.{MetPair}
 use Rattle.tape_match.specs.declared.told.Met.{Met}
 use Rattle.tape_match.specs.declared.told.Met.TheVariants as H
 
@@ -78,8 +79,21 @@ IsHandedWithin most H.Nothing = Unit {0}
 -- of a literal and a key
 abbrev pub IsLiteralKnown : Value → Seen → Known → Type 0
 IsLiteralKnown v s K.Other = (t : Taped) (x : Value) → IsSeen t x s → same_value x v ≡ false
-IsLiteralKnown v s (K.Asked same) = (t : Taped) (x : Value) → IsSeen t x s → same_value x v ≡ true
+IsLiteralKnown v s (K.Asked cost) = (t : Taped) (x : Value) → IsSeen t x s → same_value x v ≡ true
 IsLiteralKnown v s K.Nothing = Unit {0}
+
+-- an entry that is asked says yes to the key in so many judgements
+abbrev pub IsOfCost : ℕ → Known → Type 0
+IsOfCost w K.Other = Unit {0}
+IsOfCost w (K.Asked cost) = cost ≡ w
+IsOfCost w K.Nothing = Unit {0}
+
+-- These are the entries of the alternative of this number. The first ones, so many, ask the same as those of the one before.
+pub record IsNextOf (ways : List (List (F.MapEntry TypeId))) (number same : ℕ) (es : List (F.MapEntry TypeId)) : Type 0 where
+  pub before : List (F.MapEntry TypeId)
+  pub there : slice_get ways (number - 1) ≡ Some before
+  pub here : slice_get ways number ≡ Some es
+  pub alike : BeginSame same before es
 
 -- A pair has a key to which the entry's key type says yes, and this is said of its value, in so many judgements together.
 pub record IsAsked (l : Language TypeId GroupId) (e : F.MapEntry TypeId) (key held : Value) (says : Bool) (w : ℕ) : Type 0 where
@@ -124,6 +138,14 @@ module _ (l : Language TypeId GroupId) where
   abbrev pub IsPairToldAt : List (F.MapEntry TypeId) → Taped → (key held : ℕ) → Meets → Type 0
   IsPairToldAt es t key held r = (k x : Value) → IsAt t key k → IsAt t held x → IsPairTold es k x r
 
+  -- What is kept of a pair is so in the alternative of which it is kept.
+  abbrev pub IsMet : List (List (F.MapEntry TypeId)) → Taped → Option MetPair → Type 0
+  IsMet ways t None = Unit {0}
+  IsMet ways t (Some m) = (es : List (F.MapEntry TypeId)) → slice_get ways m.way ≡ Some es → IsPairToldAt es t m.key m.held (M.Takes (length es - 1 - m.number) m.asked)
+
+  abbrev pub AreMet : List (List (F.MapEntry TypeId)) → Taped → List (Option MetPair) → Type 0
+  AreMet ways t ms = (i : ℕ) (o : Option MetPair) → slice_get ms i ≡ Some o → IsMet ways t o
+
   -- this becomes of a pair at an entry that is asked about it
   abbrev pub IsEntryTold : F.MapEntry TypeId → (key held : Value) → Met → Type 0
   IsEntryTold e key held (H.Takes w) = IsAsked l e key held true w
@@ -137,7 +159,7 @@ module _ (l : Language TypeId GroupId) where
   -- this is known of an entry and of a key
   abbrev pub IsKnown : F.MapEntry TypeId → Seen → Known → Type 0
   IsKnown e s K.Other = (t : Taped) (x : Value) → IsSeen t x s → F.is_passed_over l.counting e.key_type x ≡ true
-  IsKnown e s (K.Asked same) = (t : Taped) (x : Value) → IsSeen t x s → (F.is_passed_over l.counting e.key_type x ≡ false) × (same ≡ true → FormSays l (l.type_at e.key_type) x true 1)
+  IsKnown e s (K.Asked cost) = (t : Taped) (x : Value) → IsSeen t x s → (F.is_passed_over l.counting e.key_type x ≡ false) × (0 < cost → FormSays l (l.type_at e.key_type) x true cost)
   IsKnown e s K.Nothing = Unit {0}
 
   -- Pairs have their fates with these entries. If none has fallen, each belongs to one of the first entries, so many, and the first entry that lacks pairs, or has too many, is known.

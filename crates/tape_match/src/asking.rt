@@ -1,5 +1,5 @@
 //! What types say of items on a tape, and what groups do with them, each question by a call of its own.
-ghost use Rattle.std.specs.Prelude.{◌≡◌, ◌<◌, ◌≤◌, ℕ, IfSome, IsTrue};
+ghost use Rattle.std.specs.Prelude.{◌≡◌, ◌<◌, ◌≤◌, ℕ, IfSome, IsTrue, Option, Some, true};
 ghost use Rattle.cbor_data.specs.Value.{Value};
 ghost use Rattle.cbor_tape.specs.Places.{IsAt};
 ghost use Rattle.cbor_tape.specs.Tape.{IsWholeTape};
@@ -9,10 +9,10 @@ ghost use Rattle.table_nodes.specs.declared.nodes.GroupId.{GroupId as G};
 ghost use Rattle.table_nodes.specs.declared.nodes.TypeId.{TypeId as N};
 ghost use Rattle.table_nodes.specs.Language.{RootSays, language_of};
 ghost use Rattle.table_nodes.specs.Nodes.{group_view, most_view, tag_number_view, test_view, type_view};
-ghost use Rattle.tape_match.specs.Says.{DoesAs, IsMeant, SaysAs};
-ghost use Rattle.tape_match.specs.Told.{IsDoneWithin, IsFormToldAt, IsGroupToldAt, IsHeldTold, IsWithin};
+ghost use Rattle.tape_match.specs.Says.{DoesAs, FormSays, IsMeant, SaysAs};
+ghost use Rattle.tape_match.specs.Told.{IsDoneWithin, IsFormTold, IsFormToldAt, IsGroupToldAt, IsHeldTold, IsWithin};
 
-use crate::leaf::{asks_no_bits, seen_passes};
+use crate::leaf::{seen_passes, tested};
 use crate::pairs::map_tells;
 use crate::told::{
     Asked, Does, Spare, Tells, more_done, more_told, one_more, one_more_done, within,
@@ -43,8 +43,8 @@ const MANY: usize = 16;
 /// nothing: that it says yes may only not be told by the tape alone. What byte strings hold has its tape on `spare`.
 ///
 /// No memory is asked for. What is deeper than 64 questions is not told, and neither are sequences in byte strings, strings in
-/// chunks, maps with alternatives of 10 entries or more, and an item with strings of more bytes to read in all, each time
-/// anew, than 16 times its own, or with more in each other than two thirds of the entries of `spare`.
+/// chunks, choices of 16 types or more, maps with alternatives of more than 16 entries, and an item with strings of more bytes to
+/// read in all, each time anew, than 16 times its own, or with more in each other than two thirds of the entries of `spare`.
 #[inline]
 pub fn accepts(table: &Table, bytes: &[u8], tape: &[Entry], spare: &mut [Entry], steps: u64) -> bool
     ensures { IsTrue result → (depth n : ℕ) (whole : IsWholeTape depth bytes.now tape.now n) → (w : ℕ) × RootSays table.now whole.value Yes w × (w ≤ steps) }
@@ -113,7 +113,8 @@ pub(crate) fn part_tells(
 // The type that a name or a choice of one type stands for.
 #[inline(always)]
 fn type_named(form: &Node) -> Option<TypeId>
-    ensures { IfSome result (λ to. (l : F.Language N G) → SaysAs l (type_view form.now) (l.type_at to) 1) }
+    ensures says { IfSome result (λ to. (l : F.Language N G) → SaysAs l (type_view form.now) (l.type_at to) 1) }
+    ensures keyed { IfSome result (λ to. (next : N → Option Value) → F.key_by next (type_view form.now) ≡ next to) }
 {
     match form {
         Node::Ref(to) => Some(*to),
@@ -127,8 +128,9 @@ fn type_named(form: &Node) -> Option<TypeId>
 
 // The type that a type stands for by its names, and how many these are: through 16 at most.
 #[inline(always)]
-fn behind_names(table: &Table, node: TypeId) -> (TypeId, u64)
+pub(crate) fn behind_names(table: &Table, node: TypeId) -> (TypeId, u64)
     ensures stands { SaysAs (language_of table.now) ((language_of table.now).type_at node) ((language_of table.now).type_at result.0) result.1 }
+    ensures keyed { (v : Value) → (language_of table.now).type_at result.0 ≡ F.Plain (F.equals v) → F.key_in (language_of table.now).type_at F.most_forms node ≡ Some v }
     ensures few { result.1 ≤ 16 }
 {
     let mut at = node;
@@ -364,13 +366,26 @@ fn such_tells(
 {
     let left = most - 1;
     match type_tells(on, spare, of, place, depth, left) {
-        Tells::Yes(asked) => match tested(test, on, place) {
-            Some(says) => within(says, 1 + asked, most),
-            None => Tells::Nothing,
-        },
+        Tells::Yes(asked) => test_after(on, test, place, asked, most),
         Tells::No(asked) => Tells::No(1 + asked),
         Tells::Nothing => Tells::Nothing,
     }
+}
+
+// The same of an item to which the type before the test has said yes, in so many judgements.
+#[inline(always)]
+fn test_after(on: &Asked<'_, '_>, test: &Test, place: usize, asked: u64, most: u64) -> Tells
+    requires { asked < most }
+    ensures told { (l : F.Language N G) (of : N) (x : Value) → FormSays l (l.type_at of) x true asked → IsAt on.now.taped place x → IsFormTold l (F.Such of (test_view test.now)) x result }
+    ensures within { IsWithin most result }
+{
+    let Some(seen) = on.taped.seen(place) else {
+        return Tells::Nothing;
+    };
+    let Some(told) = tested(test, seen, most - asked - 1) else {
+        return Tells::Nothing;
+    };
+    within(told.says, 1 + (asked + told.bits), most)
 }
 
 // A type, and one of the item that the byte string at the place holds.
@@ -446,19 +461,6 @@ fn held_tells(
     spare.left = inner.left;
     spare.fronts = inner.fronts;
     told
-}
-
-// Whether the item at the place passes a test that asks about no bits.
-fn tested(test: &Test, on: &Asked<'_, '_>, place: usize) -> Option<bool>
-    ensures { IfSome result (λ says. (x : Value) → IsAt on.now.taped place x → (F.passes (test_view test.now) x ≡ says) × (F.bits_asked (test_view test.now) x ≡ 0)) }
-{
-    if !asks_no_bits(test) {
-        return None;
-    }
-    let Some(seen) = on.taped.seen(place) else {
-        return None;
-    };
-    seen_passes(test, seen)
 }
 
 // The group that a name, or a choice or a sequence of one group, stands for.

@@ -1,5 +1,5 @@
 //! Tests of items on a tape.
-ghost use Rattle.std.specs.Prelude.{◌≡◌, IfSome, IsTrue, not};
+ghost use Rattle.std.specs.Prelude.{◌≡◌, ◌+◌, ◌≤◌, IfSome, IsTrue, not};
 ghost use Rattle.cbor_data.specs.Same.{same_list, same_value};
 ghost use Rattle.cbor_data.specs.Value.{Value, text as text_value};
 ghost use Rattle.cbor_tape.specs.Places.{IsSeen};
@@ -8,9 +8,10 @@ ghost use Rattle.cddl_meaning.specs.Forms.{bits_asked, passes};
 ghost use Rattle.item_nodes.specs.View.{view};
 ghost use Rattle.table_nodes.specs.Nodes.{test_view};
 
+use crate::told::Tested;
 use cbor_tape::Seen;
 use item_nodes::Item;
-use match_tests::{Subject, passes as item_passes, passes_test};
+use match_tests::{Subject, left_after_bits, passes as item_passes, passes_test};
 use table_nodes::Test;
 
 /// Strings of so many bytes are not compared: that may take longer than a judgement.
@@ -82,7 +83,7 @@ fn text_passes(test: &Test, bytes: &[u8]) -> bool
 
 // Whether a test asks about no bits.
 #[inline(always)]
-pub(crate) fn asks_no_bits(test: &Test) -> bool
+fn asks_no_bits(test: &Test) -> bool
     ensures { IsTrue result → (x : Value) → bits_asked (test_view test.now) x ≡ 0 }
 {
     match test {
@@ -102,6 +103,41 @@ pub(crate) fn asks_no_bits(test: &Test) -> bool
     }
 }
 
+// What is left of so many judgements when a test has taken one for each bit of an item that it asks about.
+#[inline(always)]
+fn left_after(test: &Test, seen: Seen<'_>, most: u64) -> Option<u64>
+    ensures { IfSome result (λ left. (t : Taped) (x : Value) → IsSeen t x seen.entry → bits_asked (test_view test.now) x + left ≡ most) }
+{
+    if asks_no_bits(test) {
+        return Some(most);
+    }
+    match seen {
+        Seen::Uint(number) => left_after_bits(test, Subject::Number(number), most),
+        Seen::Bytes(bytes) if bytes.len() < LONG => {
+            left_after_bits(test, Subject::Bytes(bytes), most)
+        }
+        _ => None,
+    }
+}
+
+// What a test of an item says, if it asks about no more bits than so many.
+#[inline(always)]
+pub(crate) fn tested(test: &Test, seen: Seen<'_>, most: u64) -> Option<Tested>
+    ensures told { IfSome result (λ r. (t : Taped) (x : Value) → IsSeen t x seen.entry → (passes (test_view test.now) x ≡ r.says) × (bits_asked (test_view test.now) x ≡ r.bits)) }
+    ensures within { IfSome result (λ r. r.bits ≤ most) }
+{
+    let Some(left) = left_after(test, seen, most) else {
+        return None;
+    };
+    let Some(says) = seen_passes(test, seen) else {
+        return None;
+    };
+    Some(Tested {
+        says,
+        bits: most.saturating_sub(left),
+    })
+}
+
 // Whether an item is surely another than this literal: it has another major type, or is a number or a string of one part that differs.
 #[inline(always)]
 pub(crate) fn is_other(seen: Seen<'_>, literal: &Item) -> Option<bool>
@@ -119,6 +155,14 @@ pub(crate) fn is_other(seen: Seen<'_>, literal: &Item) -> Option<bool>
         (Seen::Nint(_), Item::Text(_) | Item::Uint(_) | Item::Bytes(_)) => Some(true),
         (Seen::Bytes(_), Item::Text(_) | Item::Uint(_) | Item::Nint(_)) => Some(true),
         (Seen::Text(_), Item::Bytes(_) | Item::Uint(_) | Item::Nint(_)) => Some(true),
+        (
+            Seen::Array { .. }
+            | Seen::Map { .. }
+            | Seen::Tag { .. }
+            | Seen::Simple(_)
+            | Seen::Float(_, _),
+            Item::Uint(_) | Item::Nint(_) | Item::Bytes(_) | Item::Text(_),
+        ) => Some(true),
         _ => None,
     }
 }

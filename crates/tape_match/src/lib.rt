@@ -2,6 +2,8 @@
 #![tactic(auto)]
 
 mod asking;
+mod before;
+mod keys;
 mod leaf;
 mod pairs;
 mod told;

@@ -1,31 +1,33 @@
 //! What maps on a tape say by what becomes of their pairs with the entries of each alternative.
-ghost use Rattle.std.specs.Prelude.{◌≡◌, ◌<◌, ◌≤◌, ◌+◌, ◌-◌, ◌^◌, ℕ, List, length, slice_get, IfSome, IsTrue, Some, true};
+ghost use Rattle.std.specs.Prelude.{◌≡◌, ◌<◌, ◌≤◌, ◌+◌, ◌-◌, ◌^◌, ℕ, List, length, slice_get, IfSome, IsTrue, Some, true, false};
 ghost use Rattle.cbor_data.specs.Value.{Pairs, Value};
-ghost use Rattle.cbor_tape.specs.Places.{ArePairsAt, IsAt, IsSeen};
+ghost use Rattle.cbor_tape.specs.Places.{ArePairsAt, IsAt};
 ghost use Rattle.cbor_tape.specs.declared.places.Taped.{Taped};
 ghost use Rattle.cddl_meaning.specs.Forms as F;
 ghost use Rattle.cddl_meaning.specs.Judges.{is_up_to_most};
-ghost use Rattle.item_nodes.specs.View.{view};
 ghost use Rattle.table_nodes.specs.declared.nodes.GroupId.{GroupId as G};
 ghost use Rattle.table_nodes.specs.declared.nodes.TypeId.{TypeId as N};
 ghost use Rattle.table_nodes.specs.Language.{language_of};
 ghost use Rattle.table_nodes.specs.Nodes.{alternatives_view, entries_view, entry_view, most_view};
 ghost use Rattle.table_nodes.specs.Fronts.{BeginAlike};
-ghost use Rattle.tape_match.specs.Says.{FormSays, IsLacking, is_enough};
-ghost use Rattle.tape_match.specs.Told.{AreSorted, AreSortedAt, IsEntryTold, IsEntryToldAt, IsFormTold, IsFormToldAt, IsHandedWithin, IsKnown, IsLiteralKnown, IsMetWithin, IsPairToldAt, IsWayTold, IsWithin};
+ghost use Rattle.tape_match.specs.Says.{BeginSame, FormSays, IsLacking, is_enough};
+ghost use Rattle.tape_match.specs.Told.{AreMet, IsNextOf, AreSorted, AreSortedAt, IsEntryTold, IsEntryToldAt, IsFormTold, IsFormToldAt, IsHandedWithin, IsKnown, IsLiteralKnown, IsMetWithin, IsPairToldAt, IsWayTold, IsWithin};
 
 use crate::asking::part_tells;
-use crate::leaf::is_other;
+use crate::before::{MOST_MET, MetPair, keep, met_before, same_from};
+use crate::keys::key_known;
 use crate::told::{Asked, Known, Meets, Met, Sorted, Spare, Tells, not_sorted};
 use cbor_tape::Seen;
-use item_nodes::Item;
-use table_nodes::{MapEntry, Most, Node, Table, Test, TypeId};
+use table_nodes::{MapEntry, Most, Table, TypeId};
 
-/// An alternative of so many entries is not gone through: the table has an index of them.
-const MANY: usize = 10;
+/// Counts of pairs are kept for so many entries. An alternative of more is not gone through: the table has an index of them.
+const MOST_ENTRIES: usize = 16;
 
-/// Counts of pairs are kept for so many entries.
-const FEW: usize = 16;
+/// Of alternatives of so many entries it is kept what became of each pair.
+const LEAST_LONG: usize = 10;
+
+/// That is kept only where so many questions may still be asked in each other: it takes 700 bytes of the stack.
+const LEAST_CALLS: u8 = 48;
 
 // What a map says by what its alternatives say, all of them.
 #[cycle(asking)]
@@ -47,13 +49,25 @@ pub(crate) fn map_tells(
     let Some(Seen::Map { first, end }) = on.taped.seen(place) else {
         return Tells::Nothing;
     };
-    ways_tell(on, spare, map, ways, first, end, depth, most)
+    if depth >= LEAST_CALLS && are_long(ways) {
+        return long_ways_tell(on, spare, map, ways, first, end, depth, most);
+    }
+    ways_tell(on, spare, &mut [], map, ways, first, end, depth, most)
 }
 
-// The same of the map whose pairs have the places from this one up to `end`.
-#[cycle(asking)]
+// Whether these are alternatives of so many entries that what became of each pair in one is kept for the next.
 #[inline(always)]
-fn ways_tell(
+fn are_long(ways: &[Vec<MapEntry>]) -> bool {
+    match ways {
+        [first, _, ..] => first.len() >= LEAST_LONG,
+        _ => false,
+    }
+}
+
+// The same of a map whose pairs have the places from this one up to `end`, where what became of each is kept.
+#[cycle(asking)]
+#[inline(never)]
+fn long_ways_tell(
     on: &Asked<'_, '_>,
     spare: &mut Spare<'_>,
     map: TypeId,
@@ -65,6 +79,30 @@ fn ways_tell(
 ) -> Tells
     requires some { 0 < most }
     requires form { (language_of on.now.table.now).type_at map ≡ F.MapOf (alternatives_view ways.now) }
+    ensures told { (ps : Pairs) → ArePairsAt on.now.taped place end ps → (x : Value) → F.pairs_in x ≡ Some ps → IsFormTold (language_of on.now.table.now) (F.MapOf (alternatives_view ways.now)) x result }
+    ensures within { IsWithin most result }
+{
+    let mut met = [None; MOST_MET];
+    ways_tell(on, spare, &mut met, map, ways, place, end, depth, most)
+}
+
+// The same, where as much is kept as there is room for.
+#[cycle(asking)]
+#[inline(always)]
+fn ways_tell(
+    on: &Asked<'_, '_>,
+    spare: &mut Spare<'_>,
+    met: &mut [Option<MetPair>],
+    map: TypeId,
+    ways: &[Vec<MapEntry>],
+    place: usize,
+    end: usize,
+    depth: u8,
+    most: u64,
+) -> Tells
+    requires some { 0 < most }
+    requires form { (language_of on.now.table.now).type_at map ≡ F.MapOf (alternatives_view ways.now) }
+    requires met { AreMet (language_of on.now.table.now) (alternatives_view ways.now) on.now.taped met.now }
     ensures told { (ps : Pairs) → ArePairsAt on.now.taped place end ps → (x : Value) → F.pairs_in x ≡ Some ps → IsFormTold (language_of on.now.table.now) (F.MapOf (alternatives_view ways.now)) x result }
     ensures within { IsWithin most result }
 {
@@ -82,7 +120,10 @@ fn ways_tell(
         way_sorts(
             on,
             spare,
+            met,
             &mut sorted,
+            ways,
+            number,
             front,
             entries,
             place,
@@ -135,13 +176,17 @@ fn next_of(fronts: usize, front: usize) -> usize {
 }
 
 // What becomes of the pairs that have the places from this one up to `end` in an alternative of these entries, by what became of
-// them in the one before, which begins with so many of these: where each pair belongs to one of them, the pairs are not asked again.
+// them in the one before, which begins with so many of these: where each pair belongs to an entry that asks the same in both, the
+// pairs are not asked again.
 #[cycle(asking)]
 #[inline(always)]
 fn way_sorts(
     on: &Asked<'_, '_>,
     spare: &mut Spare<'_>,
+    met: &mut [Option<MetPair>],
     sorted: &mut Sorted,
+    ways: &[Vec<MapEntry>],
+    number: usize,
     front: usize,
     entries: &[MapEntry],
     place: usize,
@@ -149,18 +194,87 @@ fn way_sorts(
     depth: u8,
     most: u64,
 )
-    ensures { (before : List (F.MapEntry N)) → BeginAlike front before (entries_view entries.now) → AreSortedAt (language_of on.now.table.now) before on.now.taped place end sorted.old → AreSortedAt (language_of on.now.table.now) (entries_view entries.now) on.now.taped place end sorted.new }
+    ensures sorted { (before : List (F.MapEntry N)) → slice_get (alternatives_view ways.now) (number - 1) ≡ Some before → slice_get (alternatives_view ways.now) number ≡ Some (entries_view entries.now) → BeginAlike front before (entries_view entries.now) → AreMet (language_of on.now.table.now) (alternatives_view ways.now) on.now.taped met.old → AreSortedAt (language_of on.now.table.now) before on.now.taped place end sorted.old → AreSortedAt (language_of on.now.table.now) (entries_view entries.now) on.now.taped place end sorted.new }
+    ensures met { (before : List (F.MapEntry N)) → slice_get (alternatives_view ways.now) (number - 1) ≡ Some before → slice_get (alternatives_view ways.now) number ≡ Some (entries_view entries.now) → BeginAlike front before (entries_view entries.now) → AreMet (language_of on.now.table.now) (alternatives_view ways.now) on.now.taped met.old → AreMet (language_of on.now.table.now) (alternatives_view ways.now) on.now.taped met.new }
 {
-    if sorted.fallen || front < sorted.reach || entries.len() >= MANY {
+    if entries.len() > MOST_ENTRIES {
+        *sorted = not_sorted();
+        return;
+    }
+    if !sorted.fallen && sorted.reach <= front {
+        sorts_still(sorted, front, entries);
+        return;
+    }
+    if met.is_empty() {
         *sorted = pairs_sort(on, spare, entries, place, end, depth, most);
         return;
     }
+    let same = same_as_before(ways, number, front, entries);
+    if !sorted.fallen && sorted.reach <= same {
+        sorts_still(sorted, front, entries);
+        return;
+    }
+    *sorted = long_pairs_sort(
+        on, spare, met, entries, number, same, place, end, depth, most,
+    );
+}
+
+// How many of the first entries of an alternative, which has this number and begins with so many of those of the one before, ask the
+// same there.
+#[inline(always)]
+fn same_as_before(
+    ways: &[Vec<MapEntry>],
+    number: usize,
+    front: usize,
+    entries: &[MapEntry],
+) -> usize
+    ensures { (before : List (F.MapEntry N)) → slice_get (alternatives_view ways.now) (number - 1) ≡ Some before → BeginAlike front before (entries_view entries.now) → BeginSame result before (entries_view entries.now) }
+{
+    match ways.get(number.saturating_sub(1)) {
+        Some(before) => same_from(before.as_slice(), entries, front),
+        None => 0,
+    }
+}
+
+// Pairs that were sorted to an alternative are sorted to one of these entries so, of which as many ask the same as these pairs belong
+// to, and so many are the same.
+#[inline(always)]
+fn sorts_still(sorted: &mut Sorted, front: usize, entries: &[MapEntry])
+    requires few { length entries.now ≤ 16 }
+    requires none { sorted.now.fallen ≡ false }
+    ensures { (l : F.Language N G) (t : Taped) (place end : ℕ) (before : List (F.MapEntry N)) → ((m n : ℕ) → F.pair_cost l.counting m ≡ F.pair_cost l.counting n) → BeginAlike front before (entries_view entries.now) → BeginSame sorted.old.reach before (entries_view entries.now) → AreSortedAt l before t place end sorted.old → AreSortedAt l (entries_view entries.now) t place end sorted.new }
+{
     if front <= sorted.lacks {
         sorted.lacks = lacking(entries, &sorted.counts, front);
     }
 }
 
-// The same, by each pair.
+// The same by each pair, where it is kept what becomes of it, and was kept what became of it in the alternative before. So many of the
+// first entries ask the same there.
+#[cycle(asking)]
+#[inline(never)]
+fn long_pairs_sort(
+    on: &Asked<'_, '_>,
+    spare: &mut Spare<'_>,
+    met: &mut [Option<MetPair>],
+    entries: &[MapEntry],
+    number: usize,
+    same: usize,
+    place: usize,
+    end: usize,
+    depth: u8,
+    most: u64,
+) -> Sorted
+    requires { length entries.now ≤ 16 }
+    ensures sorted { (ws : List (List (F.MapEntry N))) → IsNextOf ws number same (entries_view entries.now) → AreMet (language_of on.now.table.now) ws on.now.taped met.old → AreSortedAt (language_of on.now.table.now) (entries_view entries.now) on.now.taped place end result }
+    ensures met { (ws : List (List (F.MapEntry N))) → IsNextOf ws number same (entries_view entries.now) → AreMet (language_of on.now.table.now) ws on.now.taped met.old → AreMet (language_of on.now.table.now) ws on.now.taped met.new }
+{
+    each_sorts(
+        on, spare, met, entries, number, same, place, end, depth, most,
+    )
+}
+
+// The same, where nothing is kept.
 #[cycle(asking)]
 #[inline(never)]
 fn pairs_sort(
@@ -172,29 +286,66 @@ fn pairs_sort(
     depth: u8,
     most: u64,
 ) -> Sorted
+    requires { length entries.now ≤ 16 }
     ensures { AreSortedAt (language_of on.now.table.now) (entries_view entries.now) on.now.taped place end result }
 {
-    if entries.len() >= MANY {
-        return not_sorted();
-    }
-    let mut counts = [0u16; FEW];
+    each_sorts(on, spare, &mut [], entries, 0, 0, place, end, depth, most)
+}
+
+// The same, where as much is kept as there is room for.
+#[cycle(asking)]
+#[inline(always)]
+fn each_sorts(
+    on: &Asked<'_, '_>,
+    spare: &mut Spare<'_>,
+    met: &mut [Option<MetPair>],
+    entries: &[MapEntry],
+    number: usize,
+    same: usize,
+    place: usize,
+    end: usize,
+    depth: u8,
+    most: u64,
+) -> Sorted
+    requires { length entries.now ≤ 16 }
+    ensures sorted { (ws : List (List (F.MapEntry N))) → IsNextOf ws number same (entries_view entries.now) → AreMet (language_of on.now.table.now) ws on.now.taped met.old → AreSortedAt (language_of on.now.table.now) (entries_view entries.now) on.now.taped place end result }
+    ensures met { (ws : List (List (F.MapEntry N))) → IsNextOf ws number same (entries_view entries.now) → AreMet (language_of on.now.table.now) ws on.now.taped met.old → AreMet (language_of on.now.table.now) ws on.now.taped met.new }
+{
+    let mut counts = [0u16; MOST_ENTRIES];
     let mut asked = 0;
     let mut fallen = false;
     let mut reach = 0;
     let mut at = place;
+    let mut index = 0usize;
     while let Some((held, next)) = on.taped.first_pair(at, end) {
         if asked >= most || next <= at || next > end {
             return not_sorted();
         }
-        match pair_meets(on, spare, entries, at, held, depth, most - asked - 1) {
+        let (key, number_of_pair) = (at, index);
+        at = next;
+        index = index.saturating_add(1);
+        let left = most - asked - 1;
+        match pair_met(
+            on,
+            spare,
+            met,
+            number_of_pair,
+            entries,
+            number,
+            same,
+            key,
+            held,
+            depth,
+            left,
+        ) {
             Meets::Takes { after, asked: more } => {
                 asked += 1 + more;
-                let number = entries.len() - 1 - after;
-                let Some(count) = counts[number].checked_add(1) else {
+                let position = entries.len() - 1 - after;
+                let Some(count) = counts[position].checked_add(1) else {
                     return not_sorted();
                 };
-                counts[number] = count;
-                reach = further(reach, number);
+                counts[position] = count;
+                reach = further(reach, position);
             }
             Meets::Falls(more) => {
                 asked += 1 + more;
@@ -202,7 +353,6 @@ fn pairs_sort(
             }
             Meets::Nothing => return not_sorted(),
         }
-        at = next;
     }
     Sorted {
         asked: Some(asked),
@@ -211,6 +361,34 @@ fn pairs_sort(
         lacks: lacking(entries, &counts, 0),
         counts,
     }
+}
+
+// What becomes of a pair in the alternative of this number, by what became of it in the one before, where that is known.
+#[cycle(asking)]
+#[inline(always)]
+fn pair_met(
+    on: &Asked<'_, '_>,
+    spare: &mut Spare<'_>,
+    met: &mut [Option<MetPair>],
+    index: usize,
+    entries: &[MapEntry],
+    number: usize,
+    same: usize,
+    key: usize,
+    held: usize,
+    depth: u8,
+    most: u64,
+) -> Meets
+    ensures told { (ws : List (List (F.MapEntry N))) → IsNextOf ws number same (entries_view entries.now) → AreMet (language_of on.now.table.now) ws on.now.taped met.old → IsPairToldAt (language_of on.now.table.now) (entries_view entries.now) on.now.taped key held result }
+    ensures met { (ws : List (List (F.MapEntry N))) → IsNextOf ws number same (entries_view entries.now) → AreMet (language_of on.now.table.now) ws on.now.taped met.old → AreMet (language_of on.now.table.now) ws on.now.taped met.new }
+    ensures within { IsMetWithin most (length entries.now) result }
+{
+    let meets = match met_before(met, index, number, same, entries.len(), key, held, most) {
+        Some(meets) => meets,
+        None => pair_meets(on, spare, entries, key, held, depth, most),
+    };
+    keep(met, index, number, entries.len(), key, held, meets);
+    meets
 }
 
 // The first entries, so many, and the one of this number with those before it.
@@ -248,7 +426,7 @@ fn way_tells(sorted: &Sorted, entries: &[MapEntry], most: u64) -> Tells
 // The number of the first of these entries, from this one on, to which too few pairs belong, or too many; or a number that is none
 // of theirs.
 #[inline(always)]
-fn lacking(entries: &[MapEntry], counts: &[u16; FEW], from: usize) -> usize
+fn lacking(entries: &[MapEntry], counts: &[u16; MOST_ENTRIES], from: usize) -> usize
     requires { length entries.now ≤ 16 }
     ensures { IsLacking (entries_view entries.now) counts.now from result }
 {
@@ -306,24 +484,15 @@ fn pair_meets(
     let mut left = entries;
     while let Some((entry, others)) = left.split_first() {
         left = others;
-        let is_same = match key_known(on.table, entry, seen) {
+        let cost = match key_known(on.table, entry, seen) {
             Known::Other => continue,
-            Known::Asked { is_same } => is_same,
+            Known::Asked { cost } => cost,
             Known::Nothing => return Meets::Nothing,
         };
         if asked >= most {
             return Meets::Nothing;
         }
-        match entry_meets(
-            on,
-            spare,
-            entry,
-            is_same,
-            key,
-            held,
-            depth,
-            most - asked - 1,
-        ) {
+        match entry_meets(on, spare, entry, cost, key, held, depth, most - asked - 1) {
             Met::Takes(more) => {
                 return Meets::Takes {
                     after: others.len(),
@@ -338,29 +507,29 @@ fn pair_meets(
     Meets::Falls(asked)
 }
 
-// What becomes of a pair at an entry that is asked about it: about its value alone where the entry's key type is a literal that
-// the key is the same as.
+// What becomes of a pair at an entry that is asked about it: about its value alone where it is known in how many judgements the
+// entry's key type says yes to its key. Where it is not, that number is 0.
 #[cycle(asking)]
 #[inline(always)]
 fn entry_meets(
     on: &Asked<'_, '_>,
     spare: &mut Spare<'_>,
     entry: &MapEntry,
-    is_same: bool,
+    cost: u64,
     key: usize,
     held: usize,
     depth: u8,
     most: u64,
 ) -> Met
-    requires { IsTrue is_same → (k : Value) → IsAt on.now.taped key k → FormSays (language_of on.now.table.now) ((language_of on.now.table.now).type_at entry.now.key_type) k true 1 }
+    requires { 0 < cost → (k : Value) → IsAt on.now.taped key k → FormSays (language_of on.now.table.now) ((language_of on.now.table.now).type_at entry.now.key_type) k true cost }
     ensures told { IsEntryToldAt (language_of on.now.table.now) (entry_view entry.now) on.now.taped key held result }
     ensures within { IsHandedWithin most result }
 {
-    if is_same {
-        if most == 0 {
+    if cost > 0 {
+        if most < cost {
             return Met::Nothing;
         }
-        return value_meets(on, spare, entry, 1, held, depth, most - 1);
+        return value_meets(on, spare, entry, cost, held, depth, most - cost);
     }
     match part_tells(on, spare, entry.key_type, key, depth, most) {
         Tells::Yes(asked) => { value_meets(on, spare, entry, asked, held, depth, most - asked) }
@@ -390,43 +559,5 @@ fn value_meets(
         Tells::No(more) if entry.cuts => Met::Falls(asked + more),
         Tells::No(more) => Met::HandsOn(asked + more),
         Tells::Nothing => Met::Nothing,
-    }
-}
-
-// What is known of an entry and of a key: an entry whose key type is known to be one value is passed over where the key is another.
-#[inline(always)]
-fn key_known(table: &Table, entry: &MapEntry, seen: Seen<'_>) -> Known
-    ensures { IsKnown (language_of table.now) (entry_view entry.now) seen.entry result }
-{
-    if let Some(Node::Plain(Test::Equals(literal))) = table.node(entry.key_type) {
-        return literal_known(seen, literal);
-    }
-    match is_passed_over(table, entry, seen) {
-        Some(true) => Known::Other,
-        Some(false) => Known::Asked { is_same: false },
-        None => Known::Nothing,
-    }
-}
-
-// The same of an entry whose key type is this literal.
-#[inline(always)]
-fn literal_known(seen: Seen<'_>, literal: &Item) -> Known
-    ensures { IsLiteralKnown (view literal.now) seen.entry result }
-{
-    match is_other(seen, literal) {
-        Some(true) => Known::Other,
-        Some(false) => Known::Asked { is_same: true },
-        None => Known::Nothing,
-    }
-}
-
-// Whether an entry is passed over by a pair with this key: its key type is known to be one value, and the key is another.
-#[inline(always)]
-fn is_passed_over(table: &Table, entry: &MapEntry, seen: Seen<'_>) -> Option<bool>
-    ensures { IfSome result (λ passed. (t : Taped) (x : Value) → IsSeen t x seen.entry → F.is_passed_over (language_of table.now).counting entry.now.key_type x ≡ passed) }
-{
-    match table.literal_of(entry.key_type) {
-        Some(literal) => is_other(seen, literal),
-        None => Some(false),
     }
 }

@@ -38,6 +38,13 @@ pub(crate) enum Tells {
     Nothing,
 }
 
+/// What a test says of an item, in so many judgements beside its own: one for each bit that it asks about.
+#[derive(Clone, Copy)]
+pub(crate) struct Tested {
+    pub says: bool,
+    pub bits: u64,
+}
+
 /// What a group does with items.
 #[derive(Clone, Copy)]
 pub(crate) enum Does {
@@ -78,8 +85,8 @@ pub(crate) enum Met {
 pub(crate) enum Known {
     /// The entry's key type is one value, and the key is another: the entry is not asked.
     Other,
-    /// The entry is asked. Its key type may be known to be a literal that the key is the same as.
-    Asked { is_same: bool },
+    /// The entry is asked. Its key type is known to say yes to the key in so many judgements, or that is not known where it is 0.
+    Asked { cost: u64 },
     /// That is not told.
     Nothing,
 }

@@ -1,4 +1,4 @@
-use Rattle.std.proofs.Common.{◌≡◌, ℕ, suc, ◌+◌, ◌-◌, ◌<◌, List, [], replicate, set, IfSome, true, false, length, get_or, slice_get, refl, sym, ap, ◌∙◌, subst, arith}
+use Rattle.std.proofs.Common.{◌≡◌, ℕ, suc, ◌+◌, ◌-◌, ◌<◌, List, [], ◌∷◌, Some, replicate, set, IfSome, true, false, length, get_or, slice_get, refl, sym, ap, ◌∙◌, subst, arith}
 use Rattle.std.proofs.lemmas.Bool.Decides.{nat_tests}
 use Rattle.std.proofs.lemmas.List.{get_or-set_other, length-map, length-set}
 use Rattle.lists.proofs.Lemmas.{none_left, same_some}
@@ -8,11 +8,11 @@ use Rattle.table_nodes.specs.Fronts.{BeginAlike}
 use Rattle.table_nodes.specs.Language.{language_of}
 use Rattle.table_nodes.specs.Majors.{told_view}
 use Rattle.table_nodes.specs.Nodes.{alternatives_view, entries_view, entry_view, group_view, most_view, tag_number_view, test_view, type_view}
-use Rattle.tape_match.specs.Says.{FormSays, GroupTakes, IsMeant, MapComes, PairsCome, RoundsCome}
-use Rattle.tape_match.specs.Told.{AreSortedAt, IsFormTold, IsGroupTold, IsSorting, one_more, one_more_done}
-use Rattle.tape_match.proofs.Left.{all_left, lacks_after, lacks_again, next_way, shorter, some_at, way_view, as_many, done_as, said_as, sorting_again, counted_pair, entry_falls, entry_handed, entry_taken, fewer_left, further_left, item_fails, item_taken, named_done, held_told, named_told, no_item_fails, or_false, or_true, tag_told, told_says, zeros}
-use Rattle.tape_match.proofs.Says.{alternatives_fail, alternatives_no, alternatives_start, alternatives_take, array_fails, array_left, array_taken, both_says, choice_no, choice_none, choice_start, choice_yes, entries_start, entry_passed, held_of, holder_no_says, holds_none_says, left_no_says, map_done, map_more, map_start, none_such_says, not_meant, pair_falls, pair_stray, pairs_done, pairs_start, rounds_empty, rounds_end, rounds_fail, rounds_full, rounds_more, rounds_start, sequence_done, sequence_fails, sequence_more, sequence_start, such_says}
-use Rattle.tape_match.proofs.+asking.Goals.{pairs::ways_tell-in-Yes, pairs::ways_tell-in-No}
+use Rattle.tape_match.specs.Says.{BeginSame, FormSays, GroupTakes, IsMeant, MapComes, PairsCome, RoundsCome}
+use Rattle.tape_match.specs.Told.{AreSortedAt, IsPairTold, IsPairToldAt, IsFormTold, IsGroupTold, IsSorting, one_more, one_more_done}
+use Rattle.tape_match.proofs.Left.{no_more_met, alike_same, all_left, fewer_same, next_way, some_at, way_view, as_many, done_as, said_as, counted_pair, entry_falls, entry_handed, entry_taken, fewer_left, further_left, item_fails, item_taken, named_done, held_told, named_told, no_item_fails, or_false, or_true, tag_told, told_says, zeros}
+use Rattle.tape_match.proofs.Says.{alternatives_fail, alternatives_no, alternatives_start, alternatives_take, array_fails, array_left, array_taken, both_says, choice_no, choice_none, choice_start, choice_yes, entries_start, entry_passed, held_of, holder_no_says, holds_none_says, left_no_says, map_done, map_more, map_start, none_such_says, not_meant, pair_falls, pair_stray, pairs_done, pairs_start, rounds_empty, rounds_end, rounds_fail, rounds_full, rounds_more, rounds_start, sequence_done, sequence_fails, sequence_more, sequence_start}
+use Rattle.tape_match.proofs.+asking.Goals.{pairs::pair_met-in-Some, pairs::pair_met-in-None, pairs::ways_tell-in-Yes, pairs::ways_tell-in-No}
 use Rattle.tape_match.proofs.+asking.Goals as goal
 
 -- types
@@ -102,12 +102,8 @@ asking::held_tells-returns-clause-told t c =
     let whole = c.in-Some.ensures in
     held_told l (l.type_at c.args.node) c.args.bytes.now _ c.in-Some.end whole c.if-end-bytes.true c.type_tells-told.result (c.type_tells-told.ensures.told whole.value (c.new.ensures _ _ whole))
 
-pub asking::such_tells-returns-in-Some-clause-told : goal.asking::such_tells-returns-in-Some-clause-told
-asking::such_tells-returns-in-Some-clause-told t c x on =
-    let l = language_of c.args.on.now.table.now in
-    let test = test_view c.args.test.now in
-    let s = c.in-Some.ensures x on in
-    c.within.ensures.told l (F.Such c.args.of test) x (such_says l c.args.of test x c.in-Some.says c.in-Yes.asked (c.in-Yes.ensures.told x on) s.0 s.1)
+pub asking::such_tells-returns-in-Yes-clause-told : goal.asking::such_tells-returns-in-Yes-clause-told
+asking::such_tells-returns-in-Yes-clause-told t c x on = c.test_after.ensures.told (language_of c.args.on.now.table.now) c.args.of x (c.in-Yes.ensures.told x on) on
 
 pub asking::such_tells-returns-in-No-clause-told : goal.asking::such_tells-returns-in-No-clause-told
 asking::such_tells-returns-in-No-clause-told t c x on = none_such_says (language_of c.args.on.now.table.now) c.args.of (test_view c.args.test.now) x c.in-No.asked (c.in-No.ensures.told x on)
@@ -289,6 +285,11 @@ pairs::map_tells-returns-clause-told t c x on =
     let s = (rw c.in-Some-Map.field-0-is at c.in-Some-Map.ensures) x on in
     c.ways_tell.ensures.told s.0 s.2 x (ap pairs_in s.1)
 
+pub pairs::map_tells-returns-then-are_long-clause-told : goal.pairs::map_tells-returns-then-are_long-clause-told
+pairs::map_tells-returns-then-are_long-clause-told t c x on =
+    let s = (rw c.in-Some-Map.field-0-is at c.in-Some-Map.ensures) x on in
+    c.long_ways_tell.ensures.told s.0 s.2 x (ap pairs_in s.1)
+
 pub pairs::ways_tell-returns-then-says-clause-told : goal.pairs::ways_tell-returns-then-says-clause-told
 pairs::ways_tell-returns-then-says-clause-told t c ps on x is =
     let l = language_of c.args.on.now.table.now in
@@ -301,17 +302,18 @@ pairs::ways_tell-returns-else-says-clause-told t c ps on x is =
     let all = alternatives_view c.args.ways.now in
     map_done l all x ps false c.loop-way.asked is (subst (λ b. MapComes l all [] ps b c.loop-way.asked) c.if-says.false ((rw (none_left _ c.in_default.ensures.cases) at c.loop-way.invariant.comes) ps on))
 
-pub pairs::pairs_sort-loop-held-init : goal.pairs::pairs_sort-loop-held-init
-pairs::pairs_sort-loop-held-init t c = record {
+pub pairs::each_sorts-loop-held-init : goal.pairs::each_sorts-loop-held-init
+pairs::each_sorts-loop-held-init t c = record {
   within = omega arith;
   many = refl;
   reached = omega arith;
   none = λ i h. zeros 16 i;
-  comes = λ ps on. let none : List ℕ = replicate 16 0 in (ps, on, pairs_start (language_of c.args.on.now.table.now) (entries_view c.args.entries.now) ps none (zeros 16));
+  met = λ ws next met. met;
+  comes = λ ws next met ps on. let none : List ℕ = replicate 16 0 in (ps, on, pairs_start (language_of c.args.on.now.table.now) (entries_view c.args.entries.now) ps none (zeros 16));
 }
 
-pub pairs::pairs_sort-loop-held-preserved-in-Some-checked_add : goal.pairs::pairs_sort-loop-held-preserved-in-Some-checked_add
-pairs::pairs_sort-loop-held-preserved-in-Some-checked_add t c =
+pub pairs::each_sorts-loop-held-preserved-in-Takes : goal.pairs::each_sorts-loop-held-preserved-in-Takes
+pairs::each_sorts-loop-held-preserved-in-Takes t c =
     let l = language_of c.args.on.now.table.now in
     let es = entries_view c.args.entries.now in
     let counts = c.loop-held.counts in
@@ -319,23 +321,25 @@ pairs::pairs_sort-loop-held-preserved-in-Some-checked_add t c =
     let number : ℕ = length c.args.entries.now - 1 - after in
     let many : length es ≡ length c.args.entries.now = length-map c.args.entries.now entry_view in
     let at : number + suc after ≡ length es = omega (arith, c.in-Takes.ensures.within.1, many) in
-    let inside : number < length counts = omega (arith, c.loop-held.invariant.many, c.in-Takes.ensures.within.1) in
+    let inside : number < length counts = omega (arith, c.loop-held.invariant.many, c.in-Takes.ensures.within.1, c.requires) in
     let count : c.in-Some-checked_add.count ≡ get_or counts number 0 + 1 = omega (arith, c.in-Some-checked_add.ensures) in
     record {
       within = omega (arith, c.loop-held.invariant.within, c.in-Takes.ensures.within.0);
       many = length-set counts number c.in-Some-checked_add.count ∙ c.loop-held.invariant.many;
       reached = c.further-reach.ensures.most (length c.args.entries.now) c.loop-held.invariant.reached (omega (arith, c.in-Takes.ensures.within.1));
       none = λ i h. get_or-set_other counts number i c.in-Some-checked_add.count 0 (λ e. omega (arith, e, h, c.further-reach.ensures.one)) ∙ c.loop-held.invariant.none i (omega (arith, h, c.further-reach.ensures.least));
-      comes = λ ps on.
-          let a = c.loop-held.invariant.comes ps on in
+      met = λ ws next met. c.in-Takes.ensures.met ws next (c.loop-held.invariant.met ws next met);
+      comes = λ ws next met ps on.
+          let a = c.loop-held.invariant.comes ws next met ps on in
           let f = c.in-Some.ensures a.0 a.1 in
           let pairs_left = subst (λ qs. PairsCome l es ps qs counts c.loop-held.fallen c.loop-held.asked) f.split a.2 in
-          let taken = counted_pair l es ps f.others f.key f.value counts after number c.loop-held.asked c.in-Takes.more c.loop-held.fallen at inside pairs_left (c.in-Takes.ensures.told f.key f.value f.key_here f.value_here) in
+          let told = c.in-Takes.ensures.told ws next (c.loop-held.invariant.met ws next met) f.key f.value f.key_here f.value_here in
+          let taken = counted_pair l es ps f.others f.key f.value counts after number c.loop-held.asked c.in-Takes.more c.loop-held.fallen at inside pairs_left told in
           (f.others, f.there, subst (λ n. PairsCome l es ps f.others (set counts number n) c.loop-held.fallen (c.loop-held.asked + (1 + c.in-Takes.more))) (sym count) taken);
     }
 
-pub pairs::pairs_sort-loop-held-preserved : goal.pairs::pairs_sort-loop-held-preserved
-pairs::pairs_sort-loop-held-preserved t c =
+pub pairs::each_sorts-loop-held-preserved : goal.pairs::each_sorts-loop-held-preserved
+pairs::each_sorts-loop-held-preserved t c =
     let l = language_of c.args.on.now.table.now in
     let es = entries_view c.args.entries.now in
     let counts = c.loop-held.counts in
@@ -344,25 +348,30 @@ pairs::pairs_sort-loop-held-preserved t c =
       many = c.loop-held.invariant.many;
       reached = c.loop-held.invariant.reached;
       none = c.loop-held.invariant.none;
-      comes = λ ps on.
-          let a = c.loop-held.invariant.comes ps on in
+      met = λ ws next met. c.in-Falls.ensures.met ws next (c.loop-held.invariant.met ws next met);
+      comes = λ ws next met ps on.
+          let a = c.loop-held.invariant.comes ws next met ps on in
           let f = c.in-Some.ensures a.0 a.1 in
           let pairs_left = subst (λ qs. PairsCome l es ps qs counts c.loop-held.fallen c.loop-held.asked) f.split a.2 in
-          let fallen = pair_falls l es ps f.others f.key f.value counts c.loop-held.fallen c.loop-held.asked c.in-Falls.more pairs_left (c.in-Falls.ensures.told f.key f.value f.key_here f.value_here) in
+          let told = c.in-Falls.ensures.told ws next (c.loop-held.invariant.met ws next met) f.key f.value f.key_here f.value_here in
+          let fallen = pair_falls l es ps f.others f.key f.value counts c.loop-held.fallen c.loop-held.asked c.in-Falls.more pairs_left told in
           (f.others, f.there, fallen);
     }
 
-pub pairs::pairs_sort-returns : goal.pairs::pairs_sort-returns
-pairs::pairs_sort-returns t c = λ ps on.
+pub pairs::each_sorts-returns-clause-sorted : goal.pairs::each_sorts-returns-clause-sorted
+pairs::each_sorts-returns-clause-sorted t c = λ ws next met ps on.
     let l = language_of c.args.on.now.table.now in
     let es = entries_view c.args.entries.now in
-    let a = c.loop-held.invariant.comes ps on in
+    let a = c.loop-held.invariant.comes ws next met ps on in
     record {
       within = omega (arith, c.loop-held.invariant.reached, length-map c.args.entries.now entry_view);
       none = c.loop-held.invariant.none;
       lacking = λ e. c.lacking.ensures;
       sorted = pairs_done l es ps c.loop-held.counts c.loop-held.fallen c.loop-held.asked (subst (λ qs. PairsCome l es ps qs c.loop-held.counts c.loop-held.fallen c.loop-held.asked) (c.in_default.ensures a.0 a.1) a.2);
     }
+
+pub pairs::each_sorts-returns-clause-met : goal.pairs::each_sorts-returns-clause-met
+pairs::each_sorts-returns-clause-met t c = c.loop-held.invariant.met
 
 pub pairs::pair_meets-loop-entry-init : goal.pairs::pair_meets-loop-entry-init
 pairs::pair_meets-loop-entry-init t c = record {
@@ -408,25 +417,57 @@ pairs::pair_meets-returns-in-Takes-clause-told t c k x kon xon =
     let many : length others ≡ length (entries_view others) = sym (length-map others entry_view) in
     entry_taken (language_of c.args.on.now.table.now) (entries_view c.args.entries.now) (entries_view others) (entry_view c.in-Some-split_first.entry.now) k x c.loop-entry.asked c.in-Takes.more _ many asked (c.in-Takes.ensures.told k x kon xon) ((rw c.in-Some-split_first.ensures.cases.0 at c.loop-entry.invariant.comes) k x kon xon)
 
-pub pairs::way_sorts-returns-then-front-sorted-2 : goal.pairs::way_sorts-returns-then-front-sorted-2
-pairs::way_sorts-returns-then-front-sorted-2 t c = λ before alike h ps on.
+pub pairs::pairs_sort-returns : goal.pairs::pairs_sort-returns
+pairs::pairs_sort-returns t c =
     let l = language_of c.args.on.now.table.now in
-    let s = c.args.sorted.now in
     let es = entries_view c.args.entries.now in
-    sorting_again l before es ps s c.lacking-sorted.result (λ m n. refl) c.if-sorted.false (shorter s.reach c.args.front before es c.if-front-sorted.false alike) (λ k. lacks_after c.args.front s.lacks c.lacking-sorted.result before es s.counts alike c.if-front-sorted-2.true k c.lacking-sorted.ensures) (h ps on)
+    let none : BeginSame 0 es es = record { some = omega arith; others = omega arith; same = λ i e f less is at. absurd (omega (arith, less)) } in
+    c.each_sorts.ensures.sorted (es ∷ []) (record { before = es; there = refl; here = refl; alike = none }) (no_more_met l (es ∷ []) c.args.on.now.taped)
 
-pub pairs::way_sorts-returns-else-front-sorted-2 : goal.pairs::way_sorts-returns-else-front-sorted-2
-pairs::way_sorts-returns-else-front-sorted-2 t c = λ before alike h ps on.
+pub pairs::pair_met-returns-clause-told : goal.pairs::pair_met-returns-clause-told
+pairs::pair_met-returns-clause-told t c = λ ws next met.
     let l = language_of c.args.on.now.table.now in
-    let s = c.args.sorted.now in
     let es = entries_view c.args.entries.now in
-    sorting_again l before es ps s s.lacks (λ m n. refl) c.if-sorted.false (shorter s.reach c.args.front before es c.if-front-sorted.false alike) (lacks_again c.args.front s.lacks before es s.counts alike c.if-front-sorted-2.false) (h ps on)
+    let many : length es ≡ length c.args.entries.now = length-map c.args.entries.now entry_view in
+    let told : IsPairToldAt l es c.args.on.now.taped c.args.key c.args.held c.match-met_before.meets = λ k x kon xon. elim c.match-met_before.branch [
+      | pairs::pair_met-in-Some w ↦ subst (λ m. IsPairTold l es k x m) (sym w.meets-is) (w.in-Some.ensures.told l ws c.args.on.now.taped es next many met k x kon xon)
+      | pairs::pair_met-in-None w ↦ subst (λ m. IsPairTold l es k x m) (sym w.meets-is) (w.pair_meets-meets.ensures.told k x kon xon)
+    ] in
+    told
+
+pub pairs::pair_met-returns-clause-met : goal.pairs::pair_met-returns-clause-met
+pairs::pair_met-returns-clause-met t c = λ ws next met.
+    let l = language_of c.args.on.now.table.now in
+    let es = entries_view c.args.entries.now in
+    let many : length es ≡ length c.args.entries.now = length-map c.args.entries.now entry_view in
+    let told : IsPairToldAt l es c.args.on.now.taped c.args.key c.args.held c.match-met_before.meets = λ k x kon xon. elim c.match-met_before.branch [
+      | pairs::pair_met-in-Some w ↦ subst (λ m. IsPairTold l es k x m) (sym w.meets-is) (w.in-Some.ensures.told l ws c.args.on.now.taped es next many met k x kon xon)
+      | pairs::pair_met-in-None w ↦ subst (λ m. IsPairTold l es k x m) (sym w.meets-is) (w.pair_meets-meets.ensures.told k x kon xon)
+    ] in
+    c.keep.ensures l ws c.args.on.now.taped es next.here many told met
+
+pub pairs::way_sorts-returns-then-sorted-front-clause-sorted : goal.pairs::way_sorts-returns-then-sorted-front-clause-sorted
+pairs::way_sorts-returns-then-sorted-front-clause-sorted t c = λ before there here alike met h.
+    let es = entries_view c.args.entries.now in
+    c.sorts_still.ensures (language_of c.args.on.now.table.now) c.args.on.now.taped c.args.place c.args.end before (λ m n. refl) alike (fewer_same c.args.sorted.now.reach c.args.front before es c.if-sorted-front.true (alike_same c.args.front before es alike)) h
+
+pub pairs::way_sorts-returns-then-sorted-same-clause-sorted : goal.pairs::way_sorts-returns-then-sorted-same-clause-sorted
+pairs::way_sorts-returns-then-sorted-same-clause-sorted t c = λ before there here alike met h.
+    let es = entries_view c.args.entries.now in
+    c.sorts_still-then-sorted-same.ensures (language_of c.args.on.now.table.now) c.args.on.now.taped c.args.place c.args.end before (λ m n. refl) alike (fewer_same c.args.sorted.now.reach c.same_as_before-same.result before es c.if-sorted-same.true (c.same_as_before-same.ensures before there alike)) h
+
+pub pairs::way_sorts-returns : goal.pairs::way_sorts-returns
+pairs::way_sorts-returns t c = record {
+  sorted = λ before there here alike met h. c.long_pairs_sort.ensures.sorted (alternatives_view c.args.ways.now) (record { before = before; there = there; here = here; alike = c.same_as_before-same.ensures before there alike }) met;
+  met = λ before there here alike met. c.long_pairs_sort.ensures.met (alternatives_view c.args.ways.now) (record { before = before; there = there; here = here; alike = c.same_as_before-same.ensures before there alike }) met;
+}
 
 pub pairs::ways_tell-loop-way-init : goal.pairs::ways_tell-loop-way-init
 pairs::ways_tell-loop-way-init t c = record {
   some = omega arith;
   within = omega (arith, c.requires.some);
   at = refl;
+  met = c.requires.met;
   sorted = λ before is ps on. subst (λ o. IfSome o (IsSorting (language_of c.args.on.now.table.now) before ps c.not_sorted-sorted.result)) (sym c.not_sorted-sorted.ensures) tt;
   comes = λ ps on. map_start (language_of c.args.on.now.table.now) (alternatives_view c.args.ways.now) ps;
 }
@@ -443,7 +484,9 @@ pairs::ways_tell-loop-way-preserved t c =
     let before = some_at all (number - 1) number es here (omega arith) in
     let alike = c.front_for-front.ensures all before.0 es c.requires.form before.1 here in
     let is = c.as_slice-entries.ensures.value in
-    let sorts = c.way_sorts.ensures before.0 (subst (λ xs. BeginAlike c.front_for-front.result before.0 (entries_view xs)) (sym is) alike) (c.loop-way.invariant.sorted before.0 before.1) in
+    let here_too = subst (λ xs. slice_get all number ≡ Some (entries_view xs)) (sym is) here in
+    let alike_too = subst (λ xs. BeginAlike c.front_for-front.result before.0 (entries_view xs)) (sym is) alike in
+    let sorts = c.way_sorts.ensures.sorted before.0 before.1 here_too alike_too c.loop-way.invariant.met (c.loop-way.invariant.sorted before.0 before.1) in
     record {
       some = elim c.match-way_tells.branch [
         | pairs::ways_tell-in-Yes w ↦ omega (arith, w.asked-is, c.loop-way.invariant.some)
@@ -454,6 +497,7 @@ pairs::ways_tell-loop-way-preserved t c =
         | pairs::ways_tell-in-No w ↦ omega (arith, w.asked-is, c.loop-way.invariant.within, w.in-No.ensures.within)
       ];
       at = next.1;
+      met = c.way_sorts.ensures.met before.0 before.1 here_too alike_too c.loop-way.invariant.met;
       sorted = λ some there.
           let one : number ≡ number + 1 - 1 = omega arith in
           let same : es ≡ some = same_some (sym here ∙ ap (λ (k : ℕ). slice_get all k) one ∙ there) in

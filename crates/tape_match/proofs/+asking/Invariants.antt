@@ -7,7 +7,7 @@ use Rattle.table_nodes.specs.Language.{language_of}
 use Rattle.table_nodes.specs.declared.nodes.TypeId.{TypeId}
 use Rattle.table_nodes.specs.Nodes.{alternatives_view, entries_view, most_view}
 use Rattle.tape_match.specs.Says.{ChoiceComes, SequenceComes, AlternativesCome, RoundsCome, EntriesCome, PairsCome, MapComes}
-use Rattle.tape_match.specs.Told.{AreSortedAt, IsRest}
+use Rattle.tape_match.specs.Told.{AreMet, AreSortedAt, IsNextOf, IsRest}
 use Rattle.tape_match.proofs.+asking.Given as goal
 
 -- Each loop: what is left says what the whole does, in so many judgements more.
@@ -57,6 +57,7 @@ invariant-pairs::ways_tell-loop-way l = record {
   some : 1 ≤ l.asked;
   within : l.asked ≤ l.fn.most;
   at : l.left ≡ drop l.number l.fn.ways;
+  met : AreMet (language_of l.fn.on.table.now) (alternatives_view l.fn.ways) l.fn.on.taped l.met;
   sorted : (before : List (F.MapEntry TypeId)) → slice_get (alternatives_view l.fn.ways) (l.number - 1) ≡ Some before → AreSortedAt (language_of l.fn.on.table.now) before l.fn.on.taped l.fn.place l.fn.end l.sorted;
   comes : (ps : Pairs) → ArePairsAt l.fn.on.taped l.fn.place l.fn.end ps → MapComes (language_of l.fn.on.table.now) (alternatives_view l.fn.ways) (alternatives_view l.left) ps l.says l.asked;
 }
@@ -64,17 +65,18 @@ invariant-pairs::ways_tell-loop-way l = record {
 abbrev pub decreases-pairs::ways_tell-loop-way : goal.decreases-pairs::ways_tell-loop-way
 decreases-pairs::ways_tell-loop-way l = length l.left
 
-abbrev pub invariant-pairs::pairs_sort-loop-held : goal.invariant-pairs::pairs_sort-loop-held
-invariant-pairs::pairs_sort-loop-held l = record {
+abbrev pub invariant-pairs::each_sorts-loop-held : goal.invariant-pairs::each_sorts-loop-held
+invariant-pairs::each_sorts-loop-held l = record {
   within : l.asked ≤ l.fn.most;
   many : length l.counts ≡ 16;
   reached : l.reach ≤ length l.fn.entries;
   none : (i : ℕ) → l.reach ≤ i → get_or l.counts i 0 ≡ 0;
-  comes : (ps : Pairs) → ArePairsAt l.fn.on.taped l.fn.place l.fn.end ps → (left : Pairs) × ArePairsAt l.fn.on.taped l.at l.fn.end left × PairsCome (language_of l.fn.on.table.now) (entries_view l.fn.entries) ps left l.counts l.fallen l.asked;
+  met : (ws : List (List (F.MapEntry TypeId))) → IsNextOf ws l.fn.number l.fn.same (entries_view l.fn.entries) → AreMet (language_of l.fn.on.table.now) ws l.fn.on.taped l.fn.met → AreMet (language_of l.fn.on.table.now) ws l.fn.on.taped l.met;
+  comes : (ws : List (List (F.MapEntry TypeId))) → IsNextOf ws l.fn.number l.fn.same (entries_view l.fn.entries) → AreMet (language_of l.fn.on.table.now) ws l.fn.on.taped l.fn.met → (ps : Pairs) → ArePairsAt l.fn.on.taped l.fn.place l.fn.end ps → (left : Pairs) × ArePairsAt l.fn.on.taped l.at l.fn.end left × PairsCome (language_of l.fn.on.table.now) (entries_view l.fn.entries) ps left l.counts l.fallen l.asked;
 }
 
-abbrev pub decreases-pairs::pairs_sort-loop-held : goal.decreases-pairs::pairs_sort-loop-held
-decreases-pairs::pairs_sort-loop-held l = l.fn.end - l.at
+abbrev pub decreases-pairs::each_sorts-loop-held : goal.decreases-pairs::each_sorts-loop-held
+decreases-pairs::each_sorts-loop-held l = l.fn.end - l.at
 
 abbrev pub invariant-pairs::pair_meets-loop-entry : goal.invariant-pairs::pair_meets-loop-entry
 invariant-pairs::pair_meets-loop-entry l = record {
@@ -134,7 +136,10 @@ abbrev pub decreases-asking::rounds_do : goal.decreases-asking::rounds_do
 decreases-asking::rounds_do l = 16 * l.depth + 5
 
 abbrev pub decreases-pairs::map_tells : goal.decreases-pairs::map_tells
-decreases-pairs::map_tells l = 16 * l.depth + 11
+decreases-pairs::map_tells l = 16 * l.depth + 13
+
+abbrev pub decreases-pairs::long_ways_tell : goal.decreases-pairs::long_ways_tell
+decreases-pairs::long_ways_tell l = 16 * l.depth + 12
 
 abbrev pub decreases-asking::own_form_tells : goal.decreases-asking::own_form_tells
 decreases-asking::own_form_tells l = 16 * l.depth + 14
@@ -149,19 +154,28 @@ abbrev pub decreases-asking::named_does : goal.decreases-asking::named_does
 decreases-asking::named_does l = 16 * l.depth + 4
 
 abbrev pub decreases-pairs::ways_tell : goal.decreases-pairs::ways_tell
-decreases-pairs::ways_tell l = 16 * l.depth + 10
+decreases-pairs::ways_tell l = 16 * l.depth + 11
 
 abbrev pub decreases-pairs::way_sorts : goal.decreases-pairs::way_sorts
-decreases-pairs::way_sorts l = 16 * l.depth + 9
+decreases-pairs::way_sorts l = 16 * l.depth + 10
+
+abbrev pub decreases-pairs::long_pairs_sort : goal.decreases-pairs::long_pairs_sort
+decreases-pairs::long_pairs_sort l = 16 * l.depth + 9
 
 abbrev pub decreases-pairs::pairs_sort : goal.decreases-pairs::pairs_sort
-decreases-pairs::pairs_sort l = 16 * l.depth + 8
+decreases-pairs::pairs_sort l = 16 * l.depth + 9
+
+abbrev pub decreases-pairs::each_sorts : goal.decreases-pairs::each_sorts
+decreases-pairs::each_sorts l = 16 * l.depth + 8
+
+abbrev pub decreases-pairs::pair_met : goal.decreases-pairs::pair_met
+decreases-pairs::pair_met l = 16 * l.depth + 7
 
 abbrev pub decreases-pairs::pair_meets : goal.decreases-pairs::pair_meets
-decreases-pairs::pair_meets l = 16 * l.depth + 7
+decreases-pairs::pair_meets l = 16 * l.depth + 6
 
 abbrev pub decreases-pairs::entry_meets : goal.decreases-pairs::entry_meets
-decreases-pairs::entry_meets l = 16 * l.depth + 6
+decreases-pairs::entry_meets l = 16 * l.depth + 5
 
 abbrev pub decreases-pairs::value_meets : goal.decreases-pairs::value_meets
-decreases-pairs::value_meets l = 16 * l.depth + 5
+decreases-pairs::value_meets l = 16 * l.depth + 4

@@ -1,4 +1,3 @@
-use Rattle.std.proofs.Common.{ap, subst, ◌≡◌}
 use Rattle.table_nodes.proofs.Beginning.{found_front}
 use Rattle.table_nodes.proofs.fronts.front_near.Goals as goal
 

@@ -19,6 +19,7 @@ invariant_of-result c =
       bound = is;
       ranked = ranked_by (language_in c.args.types.items c.args.groups.items) (flag_in c.args.ranks.may_be_empty.items) (rank_in c.args.ranks.types.items c.args.ranks.groups.items) by (λ a. rw is (at_most c.args.ranks.types.items c.args.ranks.groups.items a));
       shown = rw c.new-told.ensures.items (λ n m t e. absurd (cc));
+      valued = rw c.new-literals.ensures.items (λ i n e. absurd (cc));
       indexed = rw c.new-indexes.ensures.items (λ i index e. absurd (cc));
       begun = rw c.new-fronts.ensures.items (λ i front e. absurd (cc));
     }

@@ -2,6 +2,7 @@ use Rattle.table_nodes.proofs.table.Table.with_indexes.Goals as goal
 
 pub invariant_of-result : goal.invariant_of-result
 invariant_of-result c = record {
+  valued = c.args.self.valued;
   bound = c.args.self.bound;
   ranked = c.args.self.ranked;
   shown = c.args.self.shown;
