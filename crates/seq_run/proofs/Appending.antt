@@ -6,32 +6,18 @@ use Rattle.cbor_data.specs.Value.{Value}
 use Rattle.cbor_data.specs.Notation.{notation}
 use Rattle.item_nodes.specs.View.{view}
 use Rattle.item_nodes.specs.declared.item.Item.{Item}
-use Rattle.std.proofs.Common.{◌≡◌, ℕ, ◌+◌, ◌<◌, ◌≤◌, ◌^◌, List, [], ◌++◌, length, take, drop, decimal, ap, ◌∙◌, append_assoc, arith}
+use Rattle.std.proofs.Common.{◌≡◌, ℕ, ◌<◌, ◌≤◌, ◌^◌, List, [], ◌++◌, length, take, drop, decimal, ap, ◌∙◌, append_assoc, arith}
 use Rattle.std.proofs.lemmas.Fmt.{length-decimal-le}
 use Rattle.std.specs.Prelude.{codes}
 use Rattle.seq_run.specs.Report.{head_text}
-use Rattle.std.proofs.lemmas.List.{drop_at, drop-drop, length-take-le}
-use borrow.Rule.Slice.PartMut.{post_of, put_mid}
-
-pub two_parts : (o p q a b : List ℕ) → p ≡ o ++ a → q ≡ p ++ b → q ≡ o ++ (a ++ b)
-two_parts o p q a b e f = rw (f, e) (append_assoc o a b)
+use Rattle.std.proofs.lemmas.List.{take_at}
 
 pub four_parts : (o p q r s a b c d : List ℕ) → p ≡ o ++ a → q ≡ p ++ b → r ≡ q ++ c → s ≡ r ++ d → s ≡ o ++ (a ++ (b ++ (c ++ d)))
 four_parts o p q r s a b c d h i j k = rw (k, j, i, h) (simp append_assoc)
 
-pub five_parts : (o p q r s t a b c d e : List ℕ) → p ≡ o ++ a → q ≡ p ++ b → r ≡ q ++ c → s ≡ r ++ d → t ≡ s ++ e → t ≡ o ++ (a ++ (b ++ (c ++ (d ++ e))))
-five_parts o p q r s t a b c d e h i j k l = rw (l, k, j, i, h) (simp append_assoc)
-
 pub seven_parts : (o p q r s t u v a b c d e f g : List ℕ) → p ≡ o ++ a → q ≡ p ++ b → r ≡ q ++ c → s ≡ r ++ d → t ≡ s ++ e → u ≡ t ++ f → v ≡ u ++ g →
     v ≡ o ++ (a ++ (b ++ (c ++ (d ++ (e ++ (f ++ g))))))
 seven_parts o p q r s t u v a b c d e f g h i j k l m n = rw (n, m, l, k, j, i, h) (simp append_assoc)
-
-pub head_first : (o p q r a b c d e f g : List ℕ) → p ≡ o ++ (a ++ (b ++ (c ++ (d ++ e)))) → q ≡ p ++ f → r ≡ q ++ g → r ≡ o ++ (a ++ (b ++ (c ++ (d ++ (e ++ (f ++ g))))))
-head_first o p q r a b c d e f g h i j = rw (j, i, h) (simp append_assoc)
-
--- a part of a list that ends at `e` is written anew
-pub drop_written : (a k e : ℕ) (xs ys : List ℕ) → a + k ≡ e → a ≤ length xs → drop a (put_mid a k xs ys) ≡ ys ++ drop e xs
-drop_written a k e xs ys is le = drop_at (take a xs) (ys ++ post_of a k xs) a (length-take-le a xs le) ∙ ap (λ r. ys ++ r) (drop-drop k a xs ∙ ap (λ n. drop n xs) is)
 
 -- a number of 64 bits has 20 digits at most
 pub few_digits : (n : ℕ) → n < 2 ^ 64 → length (decimal n) ≤ 20
@@ -48,3 +34,7 @@ from_nothing o text all e f = f ∙ ap (λ (b : List ℕ). b ++ all) e
 pub shown_there : (found : Option (Bor Item)) (there : Option Value) → option_map (λ (item : Bor Item). view item.now) found ≡ there → option_map (λ (item : Bor Item). notation (view item.now)) found ≡ option_map notation there
 shown_there None there e = ap (option_map notation) e
 shown_there (Some item) there e = ap (option_map notation) e
+
+-- a whole vector that was lent as a slice
+pub whole_slice : (lent items new : List ℕ) (len : ℕ) → length new ≡ length lent → length lent ≡ len → take len (new ++ drop (length new) items) ≡ new
+whole_slice lent items new len long all = take_at new (drop (length new) items) len (long ∙ all)

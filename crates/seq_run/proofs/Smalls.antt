@@ -1,30 +1,24 @@
 -- Unsigned integers below 24 that are taken one after the other.
-use Rattle.std.proofs.Common.{◌≡◌, ℕ, zero, suc, ◌+◌, ◌<◌, ◌≤◌, ◌^◌, List, [], ◌∷◌, ◌++◌, length, take, drop, get_or, slice_index_or, Bool, Option, Some, None, Result, Ok, Err, is_ok, if◌then◌else◌, refl, sym, ap, ap₂, ◌∙◌, subst, arith, append-nil, append_assoc, length-append}
-use Rattle.std.specs.Prelude.{All, OnOk}
+use Rattle.std.proofs.Common.{◌≡◌, ℕ, zero, suc, ◌+◌, ◌<◌, ◌≤◌, ◌^◌, List, [], ◌∷◌, ◌++◌, length, take, drop, slice_index_or, Option, None, refl, sym, ap, ap₂, ◌∙◌, subst, arith, append-nil, append_assoc, length-append}
+use Rattle.std.specs.Prelude.{All}
 use Rattle.std.proofs.Math.Seq.{take-suc}
 use Rattle.std.proofs.lemmas.List.{length-take-le}
 use Rattle.std.proofs.lemmas.List.Elements.{All-nil, All-append}
 use Rattle.cbor_data.specs.Value.{Value, uint}
-use Rattle.cbor_data.specs.Faults.{Bounds, last_offset}
+use Rattle.cbor_data.specs.Faults.{Bounds}
 use Rattle.cbor_data.specs.Sequence.{Found}
-use Rattle.cbor_data.specs.Deterministic.{deterministic}
-use Rattle.cbor_data.specs.Preferred.{preferred}
 use Rattle.cbor_read.specs.Reading.{Reading}
 use Rattle.cbor_read.specs.Answers.{IsSmallNext, IsSmallTaken}
-use Rattle.seq_run.specs.declared.end.End.TheVariants.{Clean}
 use Rattle.seq_run.specs.declared.end.Stopped.{Stopped}
-use Rattle.seq_run.specs.declared.output.Mode.{Mode}
 use Rattle.seq_run.specs.declared.output.Mode.TheVariants as mode
-use Rattle.seq_run.specs.Accepted.{AreAccepted}
 use Rattle.seq_run.specs.Answers.{AreSmallsFed, IsCount}
-use Rattle.seq_run.specs.Ends.{Accepts, BeginsWith, Ends}
+use Rattle.seq_run.specs.Ends.{Accepts, BeginsWith}
 use Rattle.seq_run.specs.Judge.{Judge}
-use Rattle.seq_run.specs.Output.{item_output, items_output}
+use Rattle.seq_run.specs.Output.{items_output}
 use Rattle.seq_run.specs.Parts.{IsRunning, AreParts, parts_of}
 use Rattle.seq_run.specs.Progress.{Progress}
-use Rattle.seq_run.specs.Smalls.{smalls_from, AreSmallsTaken, none, more, IsMarked}
+use Rattle.seq_run.specs.Smalls.{smalls_from, AreSmallsTaken, none, more}
 use Rattle.seq_run.proofs.Ending.{clean_end}
-use Rattle.seq_run.proofs.Reporting.{items_output_more}
 use Rattle.seq_run.proofs.Small.{small_preferred}
 use Rattle.seq_run.proofs.Transitions.{took, counted_now, counts_below}
 
@@ -38,6 +32,12 @@ smalls_more o [] n = ap (λ (p : ℕ). small_at p n ∷ []) (let e : o ≡ o + 0
 smalls_more o (m ∷ ms) n =
     let at : suc o + length ms ≡ o + suc (length ms) = omega arith in
     ap (λ (fs : List Found). small_at o m ∷ fs) (smalls_more (suc o) ms n ∙ ap (λ (p : ℕ). smalls_from (suc o) ms ++ small_at p n ∷ []) at)
+
+pub smalls_join : (o : ℕ) (ns ms : List ℕ) → smalls_from o (ns ++ ms) ≡ smalls_from o ns ++ smalls_from (o + length ns) ms
+smalls_join o [] ms = ap (λ (p : ℕ). smalls_from p ms) (let e : o ≡ o + 0 = omega arith in e)
+smalls_join o (n ∷ ns) ms =
+    let at : suc o + length ns ≡ o + suc (length ns) = omega arith in
+    ap (λ (fs : List Found). small_at o n ∷ fs) (smalls_join (suc o) ns ms ∙ ap (λ (p : ℕ). smalls_from (suc o) ns ++ smalls_from p ms) at)
 
 pub smalls_count : (o : ℕ) (ns : List ℕ) → length (smalls_from o ns) ≡ length ns
 smalls_count o [] = refl
@@ -65,20 +65,6 @@ notes_more o ns k within out now new so_far one =
 
 -- ---- what is written of them
 
-pub small_lines_more : (m : Mode) (before offset : ℕ) (ns : List ℕ) (k : ℕ) → k < length ns → (out now new : List ℕ) → now ≡ out ++ items_output m (suc before) (smalls_from offset (take k ns)) →
-    new ≡ now ++ item_output m (before + 1 + k) (record { offset = offset + k; item = uint (slice_index_or ns k 0) }) → new ≡ out ++ items_output m (suc before) (smalls_from offset (take (k + 1) ns))
-small_lines_more m before offset ns k within out now new so_far line =
-    let front = take k ns in
-    let n = slice_index_or ns k 0 in
-    let count : length front ≡ k = front_count ns k within in
-    let found = smalls_found_more offset ns k within in
-    let number : suc before + length (smalls_from offset front) ≡ before + 1 + k = omega (arith, smalls_count offset front, count) in
-    let all : items_output m (suc before) (smalls_from offset (take (k + 1) ns)) ≡ items_output m (suc before) (smalls_from offset front) ++ item_output m (before + 1 + k) (small_at (offset + k) n) =
-    ap (items_output m (suc before)) found ∙ (items_output_more m (suc before) (smalls_from offset front) (small_at (offset + k) n)
-    ∙ ap (λ (j : ℕ). items_output m (suc before) (smalls_from offset front) ++ item_output m j (small_at (offset + k) n)) number) in
-    line ∙ (ap (λ (b : List ℕ). b ++ item_output m (before + 1 + k) (small_at (offset + k) n)) so_far
-    ∙ (append_assoc out (items_output m (suc before) (smalls_from offset front)) (item_output m (before + 1 + k) (small_at (offset + k) n)) ∙ ap (λ (b : List ℕ). out ++ b) (sym all)))
-
 pub smalls_quiet : (number o : ℕ) (ns : List ℕ) → items_output mode.EndLine number (smalls_from o ns) ≡ []
 smalls_quiet number o [] = refl
 smalls_quiet number o (n ∷ ns) = smalls_quiet (suc number) (suc o) ns
@@ -92,10 +78,6 @@ pub smalls_ordered : (number o : ℕ) (ns : List ℕ) → All (λ n. n < 24) ns 
 smalls_ordered number o [] small = refl
 smalls_ordered number o (n ∷ ns) small =
     ap₂ (λ (a b : List ℕ). a ++ b) (small_preferred n (small 0 0 (omega arith))) (smalls_ordered (suc number) (suc o) ns (λ k d h. small (suc k) d (omega arith)))
-
-pub appended_or_not : {T E : Type 0} (result : Result T E) (new old added all : List ℕ) → new ≡ (if is_ok result then old ++ added else old) → all ≡ added → OnOk result (new ≡ old ++ all)
-appended_or_not (Ok x) new old added all e same = e ∙ ap (λ (b : List ℕ). old ++ b) (sym same)
-appended_or_not (Err x) new old added all e same = tt
 
 -- ---- the reader
 

@@ -5,7 +5,6 @@ use Rattle.cbor_data.specs.Faults.{Bounds}
 use Rattle.seq_run.specs.Judge.{Judge}
 use Rattle.seq_run.specs.declared.end.End.{End}
 use Rattle.seq_run.specs.declared.output.Mode.{Mode}
-use Rattle.seq_run.specs.Answers.{IsOpen}
 use Rattle.seq_run.specs.Ends.{Ends}
 use Rattle.seq_run.specs.Progress.{Progress}
 use Rattle.seq_run.specs.Running.{IsLast, IsPieceDone}

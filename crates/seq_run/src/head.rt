@@ -1,160 +1,282 @@
-//! The head of an item's line, and the whole line of a number.
+//! The heads of items' lines, and the whole lines of numbers below 24.
 
-ghost use Rattle.std.specs.Prelude.{◌≡◌, ◌≤◌, ◌<◌, ◌+◌, ◌/◌, ◌++◌, length, take, drop, codes, decimal, OnOk, IsTrue};
+ghost use Rattle.std.specs.Prelude.{◌≡◌, ◌≤◌, ◌<◌, ◌+◌, ◌*◌, ◌%◌, ◌^◌, ◌++◌, ℕ, All, codes, decimal, length, suc, take, IsTrue, OnOk};
+ghost use Rattle.seq_run.specs.Heads.{AreNear, IsHundred, IsTemplate};
+ghost use Rattle.seq_run.specs.Output.{items_output};
 ghost use Rattle.seq_run.specs.Report.{head_text};
+ghost use Rattle.seq_run.specs.Smalls.{smalls_from};
+ghost use Rattle.seq_run.specs.declared.output.Mode.TheVariants.{Report};
+ghost use Rattle.tape_notation.specs.Put.{IsPut};
 
-use itoa::write_digits;
 use std::alloc::AllocError;
 use std::marker::Model;
+use tape_notation::put::{put, put_byte, put_number, put_pair};
 
-// The length of the longest head: its words, and two numbers of 20 digits. Each head ends there.
-const HEAD: usize = 51;
+// How many bytes a head is copied with, whatever its length, which is 51 at most: a few moves take less than a loop.
+const ROOM: usize = 64;
 
-// The same with a number below 24 and a line feed.
-const LINE: usize = 54;
-
-// Where the offset ends in each head.
-const OFFSET_END: usize = 49;
-
-// The head of an item's line, `item N at OFFSET: `, with room for a small number after it. That of the next item mostly
-// differs in the last two digits of its numbers alone.
+// A head, `item N at OFFSET: `, at the front of a text.
 #[derive(Drop)]
-pub(crate) struct Head {
-    buffer: [u8; LINE],
-    start: usize,
+struct Template {
+    text: [u8; ROOM],
     number_end: usize,
-    number: u64,
-    offset: u64,
+    end: usize,
 }
 
-impl Model for Head {
+// The numbers from `first` on and before `end`: they have two digits at least, and all but the last two are those of `base`.
+#[derive(Clone, Copy)]
+struct Hundred {
+    base: u64,
+    first: u64,
+    end: u64,
+}
+
+// The heads of items one after the other: one of them, from which those after it mostly differ in the last two digits of their
+// numbers alone. These are put where the others are copied to.
+#[derive(Drop)]
+pub(crate) struct Heads {
+    template: Template,
+    number: u64,
+    offset: u64,
+    numbers: Hundred,
+    offsets: Hundred,
+}
+
+impl Model for Heads {
     ghost use Rattle.std.specs.Prelude.{List, ℕ};
+    ghost use Rattle.seq_run.specs.Heads.{IsHundred, IsTemplate};
     ghost use Rattle.seq_run.specs.Report.{head_text};
-    ghost use Rattle.seq_run.specs.Heads.{IsHead};
 
     ghost Value = { List ℕ };
 
     ghost view = { λ h. head_text h.number h.offset };
 
-    ghost invariant = { λ h. IsHead h.buffer h.start h.number_end h.number h.offset };
+    ghost invariant = { λ h. IsTemplate h.template h.number h.offset × (IsHundred h.numbers h.number × IsHundred h.offsets h.offset) };
 }
 
-impl Head {
-    // The head of an item 0 at 0.
-    pub(crate) fn new() -> Head
-        ensures { result ≡ head_text 0 0 }
-    {
-        let mut buffer = [0; LINE];
-        let (start, number_end) = put_head(&mut buffer, 0, 0);
-        Head {
-            buffer,
-            start,
-            number_end,
+impl Heads {
+    // Those that begin with the head of an item 0 at 0.
+    pub(crate) fn new() -> Heads {
+        Heads {
+            template: template_of(0, 0),
             number: 0,
             offset: 0,
+            numbers: hundred_of(0),
+            offsets: hundred_of(0),
         }
     }
 
-    // Makes it the head of this item.
-    #[inline]
-    pub(crate) fn set(&mut self, number: u64, offset: u64)
-        ensures { self.new ≡ head_text number offset }
+    // Puts the head of this item at `at`, and answers where it ends. What is after it says nothing.
+    #[inline(always)]
+    pub(crate) fn put(&mut self, out: &mut [u8], at: usize, number: u64, offset: u64) -> usize
+        requires { at + 64 ≤ length out.old }
+        ensures put { IsPut out.old out.new at (head_text number offset) result }
+        ensures short { result ≤ at + 51 }
     {
-        if is_near(number, self.number) && is_near(offset, self.offset) {
-            let (number_last, offset_last) = ((number % 100) as u8, (offset % 100) as u8);
-            self.buffer[self.number_end - 2] = b'0' + number_last / 10;
-            self.buffer[self.number_end - 1] = b'0' + number_last % 10;
-            self.buffer[OFFSET_END - 2] = b'0' + offset_last / 10;
-            self.buffer[OFFSET_END - 1] = b'0' + offset_last % 10;
-            self.number = number;
-            self.offset = offset;
-        } else {
-            self.put(number, offset);
+        if has(self.numbers, number) && has(self.offsets, offset) {
+            let number_last = (number - self.numbers.base) as u32;
+            let offset_last = (offset - self.offsets.base) as u32;
+            return put_near(out, at, &self.template, number_last, offset_last);
         }
+        self.put_anew(out, at, number, offset)
     }
 
-    // The same, whatever it was before.
+    // Appends the head of this item.
+    pub(crate) fn push(
+        &mut self,
+        line: &mut Vec<u8>,
+        number: u64,
+        offset: u64,
+    ) -> Result<(), AllocError>
+        ensures { OnOk result (line.new.items ≡ line.old.items ++ head_text number offset) }
+    {
+        let mut text = [0; ROOM];
+        let end = self.put(&mut text, 0, number, offset);
+        line.extend_from_slice(&text[..end])
+    }
+
+    // Puts the head of this item, whatever came before.
     #[cold]
     #[inline(never)]
-    fn put(&mut self, number: u64, offset: u64)
-        ensures { self.new ≡ head_text number offset }
+    fn put_anew(&mut self, out: &mut [u8], at: usize, number: u64, offset: u64) -> usize
+        requires { at + 64 ≤ length out.old }
+        ensures put { IsPut out.old out.new at (head_text number offset) result }
+        ensures short { result ≤ at + 51 }
     {
-        let (start, number_end) = put_head(&mut self.buffer, number, offset);
-        self.start = start;
-        self.number_end = number_end;
+        self.template = template_of(number, offset);
         self.number = number;
         self.offset = offset;
+        self.numbers = hundred_of(number);
+        self.offsets = hundred_of(offset);
+        let _after = put(out, at, &self.template.text);
+        at + self.template.end
     }
 
-    // Appends the head.
-    pub(crate) fn push(&self, lines: &mut Vec<u8>) -> Result<(), AllocError>
-        ensures { OnOk result (lines.new.items ≡ lines.old.items ++ self.now) }
+    // Puts the lines of unsigned integers below 24, and answers where they end: so many items come before them, and the first one
+    // has this offset.
+    #[inline(never)]
+    pub(crate) fn put_small_lines(
+        &mut self,
+        out: &mut [u8],
+        at: usize,
+        before: u64,
+        offset: u64,
+        numbers: &[u8],
+    ) -> usize
+        requires small { All (λ n. n < 24) numbers.now }
+        requires count { before ≤ offset }
+        requires short { offset + length numbers.now < 2 ^ 64 }
+        requires room { at + 64 * length numbers.now ≤ length out.old }
+        ensures { IsPut out.old out.new at (items_output Report (suc before) (smalls_from offset numbers.now)) result }
     {
-        lines.extend_from_slice(&self.buffer[self.start..HEAD])
+        let mut end = at;
+        let mut done = 0;
+        while done < numbers.len() {
+            let number = before + 1 + done as u64;
+            let place = offset + done as u64;
+            let (after, count) = self.put_some_lines(out, end, number, place, &numbers[done..]);
+            end = after;
+            done += count;
+        }
+        end
     }
 
-    // Appends the head, the digits of a number below 24, and a line feed at once.
-    #[inline]
-    pub(crate) fn push_number(&mut self, lines: &mut Vec<u8>, n: u8) -> Result<(), AllocError>
-        requires { n < 24 }
-        ensures { OnOk result (lines.new.items ≡ lines.old.items ++ (self.old ++ (decimal n ++ codes "\n"))) }
+    // Puts the lines of the first ones whose heads are near, or of one, and answers where they end, and how many they are.
+    #[inline(always)]
+    fn put_some_lines(
+        &mut self,
+        out: &mut [u8],
+        at: usize,
+        number: u64,
+        offset: u64,
+        numbers: &[u8],
+    ) -> (usize, usize)
+        requires small { All (λ n. n < 24) numbers.now }
+        requires some { 0 < length numbers.now }
+        requires short { offset + length numbers.now < 2 ^ 64 }
+        requires count { number ≤ offset + 1 }
+        requires room { at + 64 * length numbers.now ≤ length out.old }
+        ensures put { IsPut out.old out.new at (items_output Report number (smalls_from offset (take result.1 numbers.now))) result.0 }
+        ensures some { 0 < result.1 }
+        ensures within { result.1 ≤ length numbers.now }
+        ensures short { result.0 ≤ at + 64 * result.1 }
     {
-        let end = put_number(&mut self.buffer, n);
-        lines.extend_from_slice(&self.buffer[self.start..end])
+        if has(self.numbers, number) && has(self.offsets, offset) {
+            let number_last = (number - self.numbers.base) as u32;
+            let offset_last = (offset - self.offsets.base) as u32;
+            let left = (self.numbers.end - number).min(self.offsets.end - offset) as usize;
+            let count = left.min(numbers.len());
+            let near = &numbers[..count];
+            let end = put_near_lines(out, at, &self.template, number_last, offset_last, near);
+            return (end, count);
+        }
+        let start = self.put_anew(out, at, number, offset);
+        (put_rest(out, start, numbers[0]), 1)
     }
 }
 
-// Whether two numbers of three digits and more differ in the last two alone.
-#[inline]
-fn is_near(a: u64, b: u64) -> bool
-    ensures { IsTrue result → (100 ≤ a) × (a / 100 ≡ b / 100) }
+// The head of this item.
+fn template_of(number: u64, offset: u64) -> Template
+    ensures { IsTemplate result number offset }
 {
-    a >= 100 && a / 100 == b / 100
+    let mut text = [0; ROOM];
+    let start = put(&mut text, 0, b"item ");
+    let number_end = put_number(&mut text, start, number);
+    let place = put(&mut text, number_end, b" at ");
+    let offset_end = put_number(&mut text, place, offset);
+    let end = put(&mut text, offset_end, b": ");
+    Template {
+        text,
+        number_end,
+        end,
+    }
 }
 
-// Writes the digits of a number below 24 and a line feed after the place of a head, and answers where they end.
-#[inline]
-fn put_number(buffer: &mut [u8], n: u8) -> usize
+// The numbers that have the digits of this one but for the last two, where it has two at least, and where they have an end.
+fn hundred_of(n: u64) -> Hundred
+    ensures { IsHundred result n }
+{
+    let base = n - n % 100;
+    Hundred {
+        base,
+        first: if base == 0 { 10 } else { base },
+        end: if n < 10 || base > u64::MAX - 100 {
+            0
+        } else {
+            base + 100
+        },
+    }
+}
+
+#[inline(always)]
+fn has(numbers: Hundred, n: u64) -> bool
+    ensures { IsTrue result → (numbers.first ≤ n) × (n < numbers.end) }
+{
+    numbers.first <= n && n < numbers.end
+}
+
+// Puts the head that has these last two digits of its number and of its offset, and all others of the template.
+#[inline(always)]
+fn put_near(
+    out: &mut [u8],
+    at: usize,
+    template: &Template,
+    number_last: u32,
+    offset_last: u32,
+) -> usize
+    requires near { (m p : ℕ) × (10 ≤ m) × (10 ≤ p) × IsTemplate template.now m p }
+    requires number { number_last < 100 }
+    requires offset { offset_last < 100 }
+    requires room { at + 64 ≤ length out.old }
+    ensures put { (m p n o : ℕ) → IsTemplate template.now m p → AreNear m n → AreNear p o → number_last ≡ n % 100 → offset_last ≡ o % 100 → IsPut out.old out.new at (head_text n o) result }
+    ensures short { result ≤ at + 51 }
+{
+    let _after = put(out, at, &template.text);
+    let _number = put_pair(out, at + template.number_end - 2, number_last);
+    let _offset = put_pair(out, at + template.end - 4, offset_last);
+    at + template.end
+}
+
+// Puts the lines of these numbers, of which the first one's head is so, and each further one's has one more in both places.
+#[inline(always)]
+fn put_near_lines(
+    out: &mut [u8],
+    at: usize,
+    template: &Template,
+    number_last: u32,
+    offset_last: u32,
+    numbers: &[u8],
+) -> usize
+    requires small { All (λ n. n < 24) numbers.now }
+    requires near { (m p : ℕ) × (10 ≤ m) × (10 ≤ p) × IsTemplate template.now m p }
+    requires number { number_last + length numbers.now ≤ 100 }
+    requires offset { offset_last + length numbers.now ≤ 100 }
+    requires room { at + 64 * length numbers.now ≤ length out.old }
+    ensures put { (m p n o : ℕ) → IsTemplate template.now m p → AreNear m n → AreNear p o → number_last ≡ n % 100 → offset_last ≡ o % 100 → IsPut out.old out.new at (items_output Report n (smalls_from o numbers.now)) result }
+    ensures short { result ≤ at + 64 * length numbers.now }
+{
+    let mut end = at;
+    for i in 0..numbers.len() {
+        let start = put_near(
+            out,
+            end,
+            template,
+            number_last + i as u32,
+            offset_last + i as u32,
+        );
+        end = put_rest(out, start, numbers[i]);
+    }
+    end
+}
+
+// Puts the notation of a number below 24 and a line feed.
+#[inline(always)]
+fn put_rest(out: &mut [u8], at: usize, n: u8) -> usize
     requires small { n < 24 }
-    requires room { length buffer.old ≡ 54 }
-    ensures end { result ≡ 51 + length (decimal n ++ codes "\n") }
-    ensures within { result ≤ 54 }
-    ensures written { drop 51 buffer.new ≡ (decimal n ++ codes "\n") ++ drop result buffer.old }
-    ensures before { take 51 buffer.new ≡ take 51 buffer.old }
+    requires room { at + 13 ≤ length out.old }
+    ensures put { IsPut out.old out.new at (decimal n ++ codes "\n") result }
+    ensures short { result ≤ at + 13 }
 {
-    if n < 10 {
-        buffer[HEAD] = b'0' + n;
-        buffer[HEAD + 1] = b'\n';
-        return HEAD + 2;
-    }
-    buffer[HEAD] = b'0' + n / 10;
-    buffer[HEAD + 1] = b'0' + n % 10;
-    buffer[HEAD + 2] = b'\n';
-    HEAD + 3
-}
-
-// Writes the head, and answers where it starts, and where its number ends.
-fn put_head(buffer: &mut [u8], number: u64, offset: u64) -> (usize, usize)
-    requires { length buffer.old ≡ 54 }
-    ensures written { drop result.0 buffer.new ≡ head_text number offset ++ drop 51 buffer.old }
-    ensures place { result.0 + 5 + length (decimal number) ≡ result.1 }
-{
-    let colon = put_before(buffer, HEAD, b": ");
-    let place = write_digits(offset, buffer, colon);
-    let at = put_before(buffer, place, b" at ");
-    let count = write_digits(number, buffer, at);
-    (put_before(buffer, count, b"item "), at)
-}
-
-// Writes the text so that it ends before `end`, and answers where it starts.
-#[inline]
-fn put_before(buffer: &mut [u8], end: usize, text: &[u8]) -> usize
-    requires room { length text.now ≤ end }
-    requires within { end ≤ length buffer.old }
-    ensures start { result + length text.now ≡ end }
-    ensures written { drop result buffer.new ≡ text.now ++ drop end buffer.old }
-{
-    let start = end - text.len();
-    buffer[start..end].copy_from_slice(text);
-    start
+    let end = put_number(out, at, u64::from(n));
+    put_byte(out, end, b'\n')
 }

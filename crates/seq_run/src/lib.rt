@@ -10,6 +10,7 @@ pub mod meaning;
 mod output;
 mod owned;
 mod pieces;
+mod room;
 mod running;
 mod session;
 mod watching;

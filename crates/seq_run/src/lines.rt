@@ -1,19 +1,17 @@
 //! The lines of a report.
 
-ghost use Rattle.std.specs.Prelude.{◌≡◌, ◌++◌, ℕ, decimal, IfOk, OnOk, option_copied};
+ghost use Rattle.std.specs.Prelude.{◌≡◌, ◌++◌, decimal, IfOk, OnOk, option_copied};
 ghost use Rattle.std.specs.Option.{option_map};
 ghost use Rattle.cbor_data.specs.Notation.{notation};
-ghost use Rattle.cbor_tape.specs.Tape.{IsWholeTape};
 ghost use Rattle.item_nodes.specs.View.{view};
 ghost use Rattle.cbor_item.specs.Place.Paths.{path};
-ghost use Rattle.tape_notation.specs.OnTape.{IsTaped};
 ghost use Rattle.seq_run.specs.Report.{cause_text, end_line as end_line_of, fault_text, item_line, mismatch_text, or_nothing, IsShown};
 
 use crate::end::{Cause, End};
-use crate::head::Head;
+use crate::head::Heads;
+use crate::room::Output;
 use cbor_item::{Item, Sound, item_at, path_text, push_notation};
 use cbor_read::FaultKind;
-use cbor_tape::Entry;
 use itoa::Buffer;
 use std::alloc::{AllocError, Global};
 
@@ -56,38 +54,20 @@ pub fn end_line(alloc: Global, end: &End, rejected: Option<&Sound>) -> Result<Ve
 
 // Appends the line of an item: `item N at OFFSET: DIAG` and a line feed.
 pub(crate) fn push_item_line(
-    head: &mut Head,
-    lines: &mut Vec<u8>,
+    alloc: Global,
+    heads: &mut Heads,
+    out: &mut Output,
     number: u64,
     offset: u64,
     item: &Sound,
 ) -> Result<(), AllocError>
-    ensures { OnOk result (lines.new.items ≡ lines.old.items ++ item_line number (record { offset = offset; item = item.now })) }
+    ensures { OnOk result (out.new ≡ out.old ++ item_line number (record { offset = offset; item = item.now })) }
 {
-    head.set(number, offset);
-    head.push(lines)?;
-    push_notation(lines, item.item())?;
-    lines.extend_from_slice(b"\n")?;
-    Ok(())
-}
-
-// The same of the item that the first `end` bytes spell, from these and its tape.
-pub(crate) fn push_taped_line(
-    head: &mut Head,
-    lines: &mut Vec<u8>,
-    number: u64,
-    offset: u64,
-    bytes: &[u8],
-    end: usize,
-    tape: &[Entry],
-) -> Result<(), AllocError>
-    requires { IsTaped bytes.now tape.now end }
-    ensures { OnOk result ((depth : ℕ) (whole : IsWholeTape depth bytes.now tape.now end) → lines.new.items ≡ lines.old.items ++ item_line number (record { offset = offset; item = whole.value })) }
-{
-    head.set(number, offset);
-    head.push(lines)?;
-    tape_notation::push_notation(lines, bytes, end, tape)?;
-    lines.extend_from_slice(b"\n")?;
+    let mut line = out.take(alloc);
+    heads.push(&mut line, number, offset)?;
+    push_notation(&mut line, item.item())?;
+    line.extend_from_slice(b"\n")?;
+    out.set(line);
     Ok(())
 }
 

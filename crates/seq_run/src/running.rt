@@ -13,9 +13,10 @@ ghost use Rattle.seq_run.specs.Watching.{TellsByPieces};
 ghost use Rattle.seq_run.specs.Written.{IsReadBack, IsWrittenStream};
 
 use crate::end::{End, State};
-use crate::head::Head;
+use crate::head::Heads;
 use crate::laws::{decisive_end, written_is_read_back};
 use crate::output::{Mode, push_end, push_item, push_smalls, push_taped, writes_lines};
+use crate::room::Output;
 use crate::session::{Session, Step};
 use crate::watching::{Unwatched, Watch};
 use cbor_item::{Counted, Sound, write_bytes};
@@ -51,8 +52,9 @@ pub enum RunFault {
 /// each accepted item and of the end. It answers the end, and for a mismatch the item that failed.
 ///
 /// What a piece adds to the output is put together and written before the next one is read. Beside the item that is being read
-/// it takes memory for the output of one piece: that of one item, and of items in 4,096 bytes more, with room for twelve bytes for
-/// each byte of one of these. In [`Mode::Deterministic`] it takes what [`cbor_item::write_det`] does, too, to put one item in order.
+/// it takes memory for the output of one piece: that of one item, and of items in 4,096 bytes more, with room for 64 bytes for the
+/// line of each of these and for twelve bytes for each of its bytes. In [`Mode::Deterministic`] it takes what
+/// [`cbor_item::write_det`] does, too, to put one item in order.
 ///
 /// In [`Mode::Report`] and [`Mode::EndLine`] no item is built that is whole in a piece and of which a tape tells that it is
 /// accepted ([`tape_match::accepts`]): it is checked, and its line is written, from its bytes by that tape
@@ -115,7 +117,7 @@ pub fn run_watched<R: Read, W: Write, P: Watch>(
     let mut buffer = [0; PIECE];
     let mut tape = tape_for(alloc, mode);
     let mut spare = tape_for(alloc, mode);
-    let mut bytes = Vec::new(alloc);
+    let mut bytes = Output::new(alloc);
     let mut reported = 0;
     let mut written = 0;
     let mut consumed = 0;
@@ -172,11 +174,11 @@ fn take_piece(
     spare: &mut [Entry],
     session: &mut Session<'_>,
     piece: &[u8],
-    bytes: &mut Vec<u8>,
+    bytes: &mut Output,
 ) -> Result<Option<End>, AllocError>
     requires open { session.old.stopped ≡ None }
-    requires empty { bytes.old.items ≡ [] }
-    ensures { IfOk result (λ end. IsPieceDone mode session.old piece.now end session.new bytes.new.items) }
+    requires empty { bytes.old ≡ [] }
+    ensures { IfOk result (λ end. IsPieceDone mode session.old piece.now end session.new bytes.new) }
 {
     match take_items(alloc, mode, tape, spare, session, piece, bytes)? {
         State::Open => Ok(None),
@@ -196,10 +198,10 @@ fn take_items(
     spare: &mut [Entry],
     session: &mut Session<'_>,
     piece: &[u8],
-    bytes: &mut Vec<u8>,
+    bytes: &mut Output,
 ) -> Result<State, AllocError>
     requires { session.old.stopped ≡ None }
-    ensures adds { OnOk result (Adds mode session.old piece.now bytes.old.items session.new bytes.new.items) }
+    ensures adds { OnOk result (Adds mode session.old piece.now bytes.old session.new bytes.new) }
     ensures decided { IfOk result (λ state. IsDecided state piece.now session.new) }
 {
     if piece.is_empty() {
@@ -217,24 +219,32 @@ fn feed_items(
     spare: &mut [Entry],
     session: &mut Session<'_>,
     piece: &[u8],
-    bytes: &mut Vec<u8>,
+    bytes: &mut Output,
 ) -> Result<State, AllocError>
     requires { session.old.stopped ≡ None }
-    ensures adds { OnOk result (Adds mode session.old piece.now bytes.old.items session.new bytes.new.items) }
+    ensures adds { OnOk result (Adds mode session.old piece.now bytes.old session.new bytes.new) }
     ensures answer { OnOk result (IsFed result session.new) }
 {
     let mut rest = piece;
-    let mut head = Head::new();
+    let mut heads = Heads::new();
     'steps: loop {
         let (before, offset) = session.taken();
         let count = session.take_smalls(rest);
         if count > 0 {
-            push_smalls(mode, &mut head, bytes, before, offset, &rest[..count])?;
+            push_smalls(
+                alloc,
+                mode,
+                &mut heads,
+                bytes,
+                before,
+                offset,
+                &rest[..count],
+            )?;
             rest = &rest[count..];
             continue;
         }
         if let Some(end) = take_taped(mode, tape, spare, session, rest) {
-            push_taped(mode, &mut head, bytes, before + 1, offset, rest, end, tape)?;
+            push_taped(mode, &mut heads, bytes, before + 1, offset, rest, end, tape)?;
             rest = &rest[end..];
             continue;
         }
@@ -242,7 +252,7 @@ fn feed_items(
             Step::More => return Ok(State::Open),
             Step::Ended(end) => return Ok(State::Ended(end)),
             Step::Item { used, item } => {
-                push_item(alloc, mode, &mut head, bytes, before + 1, offset, &item)?;
+                push_item(alloc, mode, &mut heads, bytes, before + 1, offset, &item)?;
                 drop(item);
                 rest = &rest[used..];
             }

@@ -1,6 +1,8 @@
+mod Decimals
 mod Forms
 mod Heads
 mod Items
+pub mod Lemmas
 mod Longest
 mod Members
 mod OnTape

@@ -1,6 +1,6 @@
 -- Texts that are put one after the other.
-use Rattle.std.proofs.Common.{◌≡◌, ℕ, ◌+◌, ◌/◌, ◌%◌, ◌<◌, ◌≤◌, List, [], ◌∷◌, ◌++◌, length, take, drop, get_or, refl, sym, ap, ◌∙◌, subst, arith, append_assoc, append-nil, length-append}
-use Rattle.std.proofs.lemmas.List.{take_at, take_more, take-append-drop}
+use Rattle.std.proofs.Common.{◌≡◌, ℕ, ◌+◌, ◌/◌, ◌%◌, ◌<◌, ◌≤◌, List, [], ◌∷◌, ◌++◌, length, take, drop, get_or, refl, sym, ap, ◌∙◌, subst, arith, length-append}
+use Rattle.std.proofs.lemmas.List.{take_more, take-append-drop}
 use Rattle.std.proofs.Math.Seq.{take-add}
 use Rattle.std.specs.Prelude.{slice_index}
 use Rattle.hex.specs.Hex.{encode_with, encode_lower, lower_digits}
@@ -8,24 +8,7 @@ use Rattle.cbor_data.specs.Forms.{Form, meaning}
 use Rattle.cbor_data.specs.Notation.{notation}
 use Rattle.tape_notation.specs.Heads.{IsFormAt}
 use Rattle.tape_notation.specs.Put.{IsPut}
-
-pub more_put : (old mid new : List ℕ) (at middle end : ℕ) (s t : List ℕ) → IsPut old mid at s middle → IsPut mid new middle t end → IsPut old new at (s ++ t) end
-more_put old mid new at middle end s t h k = record {
-  placed = omega (arith, h.placed, k.placed, length-append s t);
-  within = k.within;
-  long = k.long ∙ h.long;
-  is = k.is ∙ (ap (λ r. r ++ t) h.is ∙ append_assoc (take at old) s t);
-}
-
-pub none_put : (old : List ℕ) (at : ℕ) → at ≤ length old → IsPut old old at [] at
-none_put old at within = record { placed = omega arith; within = within; long = refl; is = sym (append-nil (take at old)) }
-
-pub same_put : {old new : List ℕ} {at end : ℕ} (s t : List ℕ) → s ≡ t → IsPut old new at s end → IsPut old new at t end
-same_put {old} {new} {at} {end} s t is h = subst (λ r. IsPut old new at r end) is h
-
--- a whole vector that was lent as a slice
-pub whole_slice : (lent items new : List ℕ) (len : ℕ) → length new ≡ length lent → length lent ≡ len → take len (new ++ drop (length new) items) ≡ new
-whole_slice lent items new len long all = take_at new (drop (length new) items) len (long ∙ all)
+pub use Rattle.tape_notation.proofs.Lemmas.{more_put, none_put, same_put}
 
 -- three texts, one after the other
 pub three_put : {o0 o1 o2 o3 : List ℕ} {at second third end : ℕ} (s t u : List ℕ) → IsPut o0 o1 at s second → IsPut o1 o2 second t third → IsPut o2 o3 third u end → IsPut o0 o3 at (s ++ (t ++ u)) end

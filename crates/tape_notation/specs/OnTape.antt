@@ -1,5 +1,5 @@
 -- Items whose entries are on a tape.
-use Rattle.std.specs.Prelude.{◌≡◌, ℕ, ◌+◌, ◌<◌, ◌≤◌, List, ◌++◌, drop, length, slice_index_or}
+use Rattle.std.specs.Prelude.{◌≡◌, ℕ, ◌+◌, ◌<◌, ◌≤◌, List, length, slice_index_or}
 use Rattle.cbor_data.specs.Notation.{notation}
 use Rattle.cbor_data.specs.Value.{Value, Values, Pairs, array, pairs, tag, places, values_places, pairs_places, values_place_count, pairs_place_count}
 use Rattle.cbor_tape.specs.Places.{AreOn}

@@ -1,5 +1,5 @@
 //! Items of every kind, each from its place on the tape.
-ghost use Rattle.std.specs.Prelude.{◌≡◌, ℕ, ◌+◌, ◌*◌, ◌≤◌, ◌++◌, length, take, IfSome, OnOk};
+ghost use Rattle.std.specs.Prelude.{◌≡◌, ℕ, ◌+◌, ◌*◌, ◌≤◌, length};
 ghost use Rattle.cbor_data.specs.Notation.{notation};
 ghost use Rattle.cbor_data.specs.Value.{array, pairs as pairs_value, places, tag, Pairs, Value, Values};
 ghost use Rattle.cbor_tape.specs.Tape.{IsWholeTape};
@@ -11,57 +11,25 @@ use crate::head::head_at;
 use crate::leaf::put_leaf;
 use crate::put::{put, put_comma, put_number};
 use cbor_tape::Entry;
-use std::alloc::AllocError;
 
 // Initial bytes below this are those of numbers and strings, and from the other one on of simple values and floats.
 const CONTAINERS_FROM: u8 = 0x80;
 
 const CONTAINERS_BELOW: u8 = 0xe0;
 
-// The notation is at most so many times as long as the item: one byte may be `simple(19)`, with a comma and a space before it.
-const LONGEST: usize = 12;
-
-/// Appends the notation of the item that the tape stands for, which is the one that the first `end` of `bytes` spell: the same
-/// that [`item_nodes::diag`] gives of it.
+/// Puts the notation of the item that the tape stands for, which is the one that the first `end` of `bytes` spell, at `at`: the
+/// same that [`item_nodes::diag`] gives of it. It answers where the notation ends, which is at most twelve bytes long for each
+/// byte of the item, and leaves what is before it. What is behind it says nothing.
 ///
-/// Room is asked for once, for twelve bytes for each byte of the item. Calls are as deep as the item.
-///
-/// # Errors
-///
-/// `AllocError` where memory runs out. No clause says what is in `out` then.
-pub fn push_notation(
-    out: &mut Vec<u8>,
-    bytes: &[u8],
-    end: usize,
-    tape: &[Entry],
-) -> Result<(), AllocError>
-    requires { IsTaped bytes.now tape.now end }
-    ensures { OnOk result ((depth : ℕ) (whole : IsWholeTape depth bytes.now tape.now end) → out.new.items ≡ out.old.items ++ notation whole.value) }
+/// No memory is asked for. Calls are as deep as the item.
+#[inline]
+pub fn put_notation(out: &mut [u8], at: usize, bytes: &[u8], end: usize, tape: &[Entry]) -> usize
+    requires taped { IsTaped bytes.now tape.now end }
+    requires room { at + 12 * end ≤ length out.old }
+    ensures put { (depth : ℕ) (whole : IsWholeTape depth bytes.now tape.now end) → IsPut out.old out.new at (notation whole.value) result }
+    ensures short { result ≤ at + 12 * end }
 {
-    let before = out.len();
-    let Some(len) = room_after(before, end) else {
-        return Err(AllocError);
-    };
-    extend_to(out, len)?;
-    let after = put_item(out.as_mut_slice(), before, bytes, tape, 0);
-    out.truncate(after);
-    Ok(())
-}
-
-// How long the output may be after an item of so many bytes, where it is so long before.
-fn room_after(before: usize, end: usize) -> Option<usize>
-    ensures { IfSome result (λ len. len ≡ before + 12 * end) }
-{
-    before.checked_add(end.checked_mul(LONGEST)?)
-}
-
-// Makes the output as long as this.
-fn extend_to(out: &mut Vec<u8>, len: usize) -> Result<(), AllocError>
-    requires { length out.old.items ≤ len }
-    ensures long { OnOk result (length out.new.items ≡ len) }
-    ensures front { OnOk result (take (length out.old.items) out.new.items ≡ out.old.items) }
-{
-    out.resize(len, 0)
+    put_item(out, at, bytes, tape, 0)
 }
 
 // Puts the notation of the item at the place.

@@ -6,10 +6,10 @@ mod head;
 mod hex_digits;
 mod item;
 mod leaf;
-mod put;
+pub mod put;
 mod text;
 
-pub use crate::item::push_notation;
+pub use crate::item::put_notation;
 
 #[cfg(test)]
 mod tests;

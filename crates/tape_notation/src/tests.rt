@@ -1,6 +1,6 @@
 //! The notation of items of every kind. The expected texts are those of docs/ITEMS.md for items of RFC 8949 appendix A, and what
 //! is written of the item in memory is the same.
-use crate::push_notation;
+use crate::put_notation;
 use cbor_tape::{Entry, whole_tape};
 use item_nodes::diag;
 use read_items::whole::whole_item;
@@ -16,14 +16,15 @@ fn shows(alloc: Global, bytes: &[u8], text: &[u8]) -> Result<bool, AllocError> {
         return Ok(false);
     };
     let mut line = Vec::from_slice(alloc, b"at 0: ")?;
-    push_notation(&mut line, bytes, end, &tape)?;
+    line.resize(6 + 12 * end, 0)?;
+    let after = put_notation(line.as_mut_slice(), 6, bytes, end, &tape);
     let mut wanted = Vec::from_slice(alloc, b"at 0: ")?;
     wanted.extend_from_slice(text)?;
     let Some((item, _)) = whole_item(alloc, bytes, 32)? else {
         return Ok(false);
     };
     let held = diag(alloc, &item)?;
-    Ok(line.as_slice() == wanted.as_slice() && held.as_slice() == text)
+    Ok(&line.as_slice()[..after] == wanted.as_slice() && held.as_slice() == text)
 }
 
 // Whether this holds of all of these items.

@@ -1,5 +1,5 @@
 -- By a text that decides about each item a stream has an end.
-use Rattle.std.proofs.Common.{◌≡◌, ℕ, ◌+◌, ◌<◌, ◌≤◌, ◌^◌, inl, inr, List, refl, sym, subst, arith}
+use Rattle.std.proofs.Common.{◌≡◌, ℕ, ◌<◌, ◌≤◌, ◌^◌, inl, inr, List, refl, sym, subst, arith}
 use Rattle.std.proofs.lemmas.Bool.{cases_lt}
 use Rattle.cbor_data.specs.Faults.{Bounds, IsFaultOf, IsItem}
 use Rattle.cbor_data.specs.Sequence.{EndsBy, Found}

@@ -1,4 +1,4 @@
-use Rattle.std.proofs.Common.{subst, arith}
+use Rattle.std.proofs.Common.{arith}
 use Rattle.cddl_language.specs.Language.{language}
 use Rattle.cddl_meaning.proofs.Lemmas.{costs, forms_are_literals}
 use Rattle.seq_run.proofs.OfMeaning.OneEnd.{text_once}

@@ -1,4 +1,4 @@
-use Rattle.std.proofs.Common.{◌≡◌, take, None, refl, sym, ◌∙◌, arith, length-take}
+use Rattle.std.proofs.Common.{◌≡◌, take, None, refl, sym, arith, length-take}
 use Rattle.std.proofs.lemmas.List.{length-take-le}
 use Rattle.item_nodes.specs.Counted.{device_of, failures_of}
 use Rattle.seq_run.specs.Judge.{judge_of}
@@ -33,8 +33,8 @@ returns-in-Err-clause-fault g c =
     (failures_of c.args.input.now) (failures_of c.pieces.input) (failures_of c.args.output.now) (failures_of c.pieces.output) c.pieces.session c.pieces.reported c.pieces.written c.pieces.invariant.0
     (g.R.Read.remaining (device_of c.read.new.self)) (take c.in-Ok.count c.read.new.buf) c.in-Ok.ensures.bytes.0
     (λ e. c.in-Ok.ensures.bytes.1 (no_bytes c.in-Ok.count c.read.new.buf (take c.in-Ok.count c.read.new.buf) c.in-Ok.ensures.bound.0 refl e) (omega arith))
-    c.in-Ok-take_piece.end c.take_piece.new.session c.take_piece.new.bytes.items c.in-Ok-take_piece.ensures
-    (g.W.Write.contents (device_of c.write_bytes.new.out)) c.in-Err.fault.written (failures_of c.write_bytes.new.out) (rw c.as_slice.ensures.value at c.in-Err.ensures.short) (rw c.as_slice.ensures.value at c.in-Err.ensures.part) c.in-Err.ensures.failed
+    c.in-Ok-take_piece.end c.take_piece.new.session c.take_piece.new.bytes c.in-Ok-take_piece.ensures
+    (g.W.Write.contents (device_of c.write_bytes.new.out)) c.in-Err.fault.written (failures_of c.write_bytes.new.out) (rw c.as_slice.ensures at c.in-Err.ensures.short) (rw c.as_slice.ensures at c.in-Err.ensures.part) c.in-Err.ensures.failed
 
 pub returns-in-Some-clause-reported : goal.returns-in-Some-clause-reported
 returns-in-Some-clause-reported g c =
@@ -42,12 +42,12 @@ returns-in-Some-clause-reported g c =
     (failures_of c.args.input.now) (failures_of c.pieces.input) (failures_of c.args.output.now) (failures_of c.pieces.output) c.pieces.session c.pieces.reported c.pieces.written c.pieces.invariant.0
     (g.R.Read.remaining (device_of c.read.new.self)) (take c.in-Ok.count c.read.new.buf) c.in-Ok.ensures.bytes.0
     (λ e. c.in-Ok.ensures.bytes.1 (no_bytes c.in-Ok.count c.read.new.buf (take c.in-Ok.count c.read.new.buf) c.in-Ok.ensures.bound.0 refl e) (omega arith))
-    c.in-Ok-take_piece.end c.take_piece.new.session c.take_piece.new.bytes.items c.in-Ok-take_piece.ensures
-    c.in-Some.end c.into_rejected.result (g.W.Write.contents (device_of c.write_bytes.new.out)) (failures_of c.write_bytes.new.out) c.in-Some.is (rw c.as_slice.ensures.value at c.in_default-write_bytes.ensures.all) c.into_rejected.ensures
+    c.in-Ok-take_piece.end c.take_piece.new.session c.take_piece.new.bytes c.in-Ok-take_piece.ensures
+    c.in-Some.end c.into_rejected.result (g.W.Write.contents (device_of c.write_bytes.new.out)) (failures_of c.write_bytes.new.out) c.in-Some.is (rw c.as_slice.ensures at c.in_default-write_bytes.ensures.all) c.into_rejected.ensures
 
 pub returns-in-Some-clause-shown : goal.returns-in-Some-clause-shown
 returns-in-Some-clause-shown g c =
-    shown_last c.shows_inside.ensures c.args.mode c.pieces.session (take c.in-Ok.count c.read.new.buf) c.in-Ok-take_piece.end c.take_piece.new.session c.take_piece.new.bytes.items c.in-Ok-take_piece.ensures
+    shown_last c.shows_inside.ensures c.args.mode c.pieces.session (take c.in-Ok.count c.read.new.buf) c.in-Ok-take_piece.end c.take_piece.new.session c.take_piece.new.bytes c.in-Ok-take_piece.ensures
     c.in-Some.end c.into_rejected.result c.in-Some.is c.into_rejected.ensures
 
 pub returns-in-Some-clause-read_back : goal.returns-in-Some-clause-read_back
@@ -62,11 +62,11 @@ pieces-preserved g c =
     (failures_of c.args.input.now) (failures_of c.pieces.input) (failures_of c.args.output.now) (failures_of c.pieces.output) c.pieces.session c.pieces.reported c.pieces.written c.pieces.invariant.0
     (g.R.Read.remaining (device_of c.read.new.self)) (take c.in-Ok.count c.read.new.buf) c.in-Ok.ensures.bytes.0
     (λ e. c.in-Ok.ensures.bytes.1 (no_bytes c.in-Ok.count c.read.new.buf (take c.in-Ok.count c.read.new.buf) c.in-Ok.ensures.bound.0 refl e) (omega arith))
-    c.in-Ok-take_piece.end c.take_piece.new.session c.take_piece.new.bytes.items c.in-Ok-take_piece.ensures
-    (g.W.Write.contents (device_of c.write_bytes.new.out)) (failures_of c.read.new.self) (failures_of c.write_bytes.new.out) c.in-Ok.ensures.count none (rw c.as_slice.ensures.value at c.in_default-write_bytes.ensures.all) c.in_default-write_bytes.ensures.count
-    c.len.result (c.len.ensures ∙ c.take_piece.new.bytes.ok.0) c.len.type_inv c.taken-reported.result.0 (λ e. c.taken-reported.ensures.items_is) in (
+    c.in-Ok-take_piece.end c.take_piece.new.session c.take_piece.new.bytes c.in-Ok-take_piece.ensures
+    (g.W.Write.contents (device_of c.write_bytes.new.out)) (failures_of c.read.new.self) (failures_of c.write_bytes.new.out) c.in-Ok.ensures.count none (rw c.as_slice.ensures at c.in_default-write_bytes.ensures.all) c.in_default-write_bytes.ensures.count
+    c.len.result c.len.ensures c.len.type_inv c.taken-reported.result.0 (λ e. c.taken-reported.ensures.items_is) in (
       next.1,
-      watched_more c.args.mode c.pieces.session (take c.in-Ok.count c.read.new.buf) c.in-Ok-take_piece.end c.take_piece.new.session c.take_piece.new.bytes.items c.in-Ok-take_piece.ensures none
+      watched_more c.args.mode c.pieces.session (take c.in-Ok.count c.read.new.buf) c.in-Ok-take_piece.end c.take_piece.new.session c.take_piece.new.bytes c.in-Ok-take_piece.ensures none
           c.pieces.consumed c.in-Ok.count c.pieces.invariant.1.consumed_is (sym (length-take-le c.in-Ok.count c.read.new.buf c.in-Ok.ensures.bound.0))
           (judge_of c.args.table.now c.args.steps) c.args.limits (g.P.Watch.told c.args.watch.now) (g.P.Watch.told c.pieces.watch) (g.P.Watch.told c.tell.new.self) c.pieces.invariant.1 next.1.judge_is next.1.limits_is
           (omega (arith, length-take c.in-Ok.count c.read.new.buf, c.read.auto.buf)) c.taken-reported.result.0 next.1.reported_is c.tell.ensures,
@@ -103,7 +103,7 @@ pub overflow_add-consumed : goal.overflow_add-consumed
 overflow_add-consumed g c =
     omega (
       arith,
-      consumed_fits c.args.mode c.pieces.session (take c.in-Ok.count c.read.new.buf) c.in-Ok-take_piece.end c.take_piece.new.session c.take_piece.new.bytes.items c.in-Ok-take_piece.ensures c.in_default-end.is
+      consumed_fits c.args.mode c.pieces.session (take c.in-Ok.count c.read.new.buf) c.in-Ok-take_piece.end c.take_piece.new.session c.take_piece.new.bytes c.in-Ok-take_piece.ensures c.in_default-end.is
           c.pieces.consumed c.in-Ok.count c.pieces.invariant.1.consumed_is (sym (length-take-le c.in-Ok.count c.read.new.buf c.in-Ok.ensures.bound.0)),
     )
 

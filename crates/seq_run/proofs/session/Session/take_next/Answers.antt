@@ -1,5 +1,4 @@
-use Rattle.std.proofs.Common.{◌≡◌, [], ◌∷◌, ◌++◌, map, ap, arith, refl, sym, ◌∙◌}
-use Rattle.cbor_read.specs.Reading.{Reading}
+use Rattle.std.proofs.Common.{◌≡◌, map, ap, arith, ◌∙◌}
 use Rattle.seq_run.specs.FoundItem.{found_of}
 use Rattle.seq_run.specs.declared.session.FoundItem.TheVariants.{Other}
 use Rattle.seq_run.specs.Progress.{Progress}

@@ -1,10 +1,7 @@
-use Rattle.std.proofs.Common.{◌≡◌, length, take, map, ap, arith, refl, sym, subst, ◌∙◌, rules}
+use Rattle.std.proofs.Common.{take, map, ap, arith, ◌∙◌}
 use Rattle.std.proofs.lemmas.List.{length-take-le}
-use Rattle.cbor_data.specs.Value.{uint}
-use Rattle.seq_run.specs.Ends.{Accepts}
 use Rattle.seq_run.specs.FoundItem.{found_of}
 use Rattle.seq_run.specs.Progress.{Progress}
-use Rattle.seq_run.specs.Smalls.{AreSmallsTaken}
 use Rattle.seq_run.proofs.Smalls.{smalls_fit, smalls_kept, smalls_fed}
 use Rattle.seq_run.proofs.session.Session.take_smalls.Goals as goal
 
